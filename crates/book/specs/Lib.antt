@@ -1,0 +1,4 @@
+pub mod Cents
+pub mod Lines
+pub mod Meaning
+pub mod Statement
