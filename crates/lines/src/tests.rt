@@ -1,0 +1,45 @@
+// What a line says, on examples.
+use crate::entry::parse;
+use crate::text::number;
+use crate::text::trimmed;
+use std::test::*;
+
+#[test]
+fn numbers() -> Result<(), Fail> {
+    check_eq(number(b"0"), Some(0))?;
+    check_eq(number(b"-102"), Some(-102))?;
+    check_eq(number(b"007"), Some(7))?;
+    check_eq(
+        number(b"99999999999999999999"),
+        Some(1_000_000_000_000_000_000),
+    )?;
+    check_eq(
+        number(b"-99999999999999999999"),
+        Some(-1_000_000_000_000_000_000),
+    )
+}
+
+#[test]
+fn no_numbers() -> Result<(), Fail> {
+    check_eq(number(b""), None)?;
+    check_eq(number(b"-"), None)?;
+    check_eq(number(b"--1"), None)?;
+    check_eq(number(b"+1"), None)?;
+    check_eq(number(b"1 "), None)
+}
+
+#[test]
+fn malformed_lines() -> Result<(), Fail> {
+    check(parse(b"interval,1,1,10000,40").is_some())?;
+    check(parse(b"interval,1,1,10000").is_none())?;
+    check(parse(b"interval,1,1,10000,40,").is_none())?;
+    check(parse(b"intervals,1,1,10000,40").is_none())?;
+    check(parse(b"house").is_none())?;
+    check(parse(b"house,1,4,5,6").is_none())
+}
+
+#[test]
+fn blanks_around_a_line() -> Result<(), Fail> {
+    check_eq(trimmed(b" \t house,1 \r").len(), 7)?;
+    check_eq(trimmed(b" \t\r").len(), 0)
+}
