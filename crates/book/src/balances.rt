@@ -15,7 +15,7 @@ pub struct Balances {
 }
 
 impl Balances {
-    pub fn zero() -> Balances
+    pub(crate) fn zero() -> Balances
         ensures { λ r. ⌜ ((k : ℕ) → getD (r .cells) k (pos 0) ≡ pos 0) ⌝ }
     {
         Balances {
@@ -24,14 +24,14 @@ impl Balances {
     }
 
     // What stands at an index, counted from 0.
-    pub fn at(&self, index: usize) -> Money
+    pub(crate) fn at(&self, index: usize) -> Money
         requires { ⌜ index < accounts ⌝ }
         ensures { λ r. ⌜ (r .0 ≡ getD (now (self .entry) .cells) index (pos 0)) × Around balance-limit (r .0) ⌝ }
     {
         Money(self.cells[index])
     }
 
-    pub fn put(&mut self, index: usize, balance: Money)
+    pub(crate) fn put(&mut self, index: usize, balance: Money)
         requires { ⌜ index < accounts ⌝ ∗ ⌜ Around balance-limit (balance .0) ⌝ }
         ensures here { λ _. ⌜ getD (now (self .exit) .cells) index (pos 0) ≡ balance .0 ⌝ }
         ensures elsewhere { λ _. ⌜ ((k : ℕ) → (k ≡ index → ⊥) → getD (now (self .exit) .cells) k (pos 0) ≡ getD (now (self .entry) .cells) k (pos 0)) ⌝ }

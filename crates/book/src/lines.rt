@@ -7,7 +7,7 @@ use crate::entry::Entry;
 use units::Money;
 
 // How many lines stand before the first vacant one.
-pub fn count_used(lines: &[Option<Entry>]) -> usize
+pub(crate) fn count_used(lines: &[Option<Entry>]) -> usize
     ensures { λ r. ⌜ r ≡ used-lines (now (lines .entry)) ⌝ }
 {
     for (index, line) in lines.iter().enumerate() {
@@ -19,7 +19,7 @@ pub fn count_used(lines: &[Option<Entry>]) -> usize
 }
 
 // The balance in an account's last used line, or zero.
-pub fn last_balance(lines: &[Option<Entry>], account: u16) -> Money
+pub(crate) fn last_balance(lines: &[Option<Entry>], account: u16) -> Money
     ensures { λ r. ⌜ r .0 ≡ balance-in (now (lines .entry)) account ⌝ }
 {
     let mut balance: i128 = 0;
@@ -44,7 +44,7 @@ fn after_line(balance: i128, entry: &Entry, account: u16) -> i128
 }
 
 // Vacates every line after the first vacant one, and answers how many stand before it.
-pub fn vacate_rest(lines: &mut [Option<Entry>]) -> usize
+pub(crate) fn vacate_rest(lines: &mut [Option<Entry>]) -> usize
     ensures used { λ r. ⌜ r ≡ used-lines (now (lines .entry)) ⌝ }
     ensures after { λ _. ⌜ now (lines .exit) ≡ vacated (now (lines .entry)) ⌝ }
 {

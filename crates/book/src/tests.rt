@@ -21,6 +21,14 @@ fn amount(answer: Result<Money, Refusal>) -> Result<i128, Fail> {
     }
 }
 
+// The account in a line of that number, 0 where there is none.
+fn account_at(book: &Passbook, line: usize) -> u16 {
+    match book.entry(line) {
+        Ok(entry) => entry.account,
+        Err(_) => 0,
+    }
+}
+
 #[test]
 fn cuts_balances_to_cents() -> Result<(), Fail> {
     let mut layer = CentLayer::over(TableBook::new());
@@ -68,6 +76,22 @@ fn stands_on_another_layer() -> Result<(), Fail> {
     check_eq(amount(upper.payable(1))?, -1_234)?;
     let lower = upper.into_below();
     check_eq(amount(lower.payable(1))?, -1)
+}
+
+// A statement is posted by rising account, and a zero is not posted.
+#[test]
+fn posts_by_rising_account() -> Result<(), Fail> {
+    let mut lines: [Option<Entry>; 4] = [None; 4];
+    let mut book = Passbook::over(&mut lines);
+    let mut amounts = [Money(0); ACCOUNTS];
+    amounts[95] = Money(7);
+    amounts[0] = Money(3);
+    amounts[40] = Money(-5);
+    check_eq(number(post_statement(&mut book, &amounts)), 0)?;
+    check_eq(book.places(), 1)?;
+    check_eq(account_at(&book, 1), 1)?;
+    check_eq(account_at(&book, 2), 41)?;
+    check_eq(account_at(&book, 3), 96)
 }
 
 #[test]

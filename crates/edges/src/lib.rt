@@ -1,6 +1,9 @@
 // Tests of the ends of every range, in a crate of their own so that the figures are not proved again for them.
 
 #[cfg(test)]
+mod rows;
+
+#[cfg(test)]
 mod tests {
     use records::Contract;
     use records::Facility;

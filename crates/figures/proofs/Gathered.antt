@@ -18,7 +18,6 @@ use Rattle.units.specs.Ranges.{Account, Around, Within, accounts}
 use Rattle.units.specs.Division.{nearest}
 use Rattle.formulas.specs.Basis.{Basis, Injection, facilities, of-account, of-load, over}
 use Rattle.formulas.specs.Figures.{IEQ, GESC, VCRP, WEQ, WFQ, at-least-0, whole}
-use Rattle.formulas.specs.Laws.{Parties}
 use Rattle.figures.specs.Meaning.{basis-of, injection-of, withdrawal-of, bilateral-of, vested-of, numbered, tranche, tranches-of}
 use Rattle.formulas.specs.Sums.{sum}
 use Rattle.figures.specs.Working.{All-totalled, Grown, Priced, Roomy, Totalled, nothing-injected, price-from, upto}
@@ -30,6 +29,7 @@ use Rattle.records.specs.declared.entries.Facility.{Facility}
 use Rattle.records.specs.declared.entries.Load.{Load}
 use Rattle.records.specs.declared.entries.Vesting.{Vesting}
 use Rattle.formulas.proofs.Bounds.{In-ranges, VCRP-around, injected-up-to, over-around, over-up-to, over-weighted, product-around}
+use Rattle.formulas.proofs.Conservation.{Parties}
 use Rattle.formulas.proofs.Steps.{sum-step}
 use Rattle.formulas.proofs.Sums.{sum-none}
 

@@ -58,7 +58,7 @@ pub record Roomy (x : Injected) : Type 0 where
 abbrev pub price-from : Injected → ℤ
 price-from x = cond (eqb (whole (x .injected .0)) 0) (nearest (x .prices .0) (x .count)) (nearest (x .weighted .0) (whole (x .injected .0)))
 
--- the totals give a reference price: none drew more than it injected, and without a facility there is no price
+-- the totals give a reference price: what was injected is not negative, and without a facility there are no prices
 pub record Priced (x : Injected) : Type 0 where
   pub injected : pos 0 ≤ℤ (x .injected .0)
   pub nothing : x .count ≡ 0 → x .prices .0 ≡ pos 0

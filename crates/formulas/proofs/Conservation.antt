@@ -15,10 +15,16 @@ use Rattle.std.specs.declared.option.Option.the-variants.{Some, None}
 use Rattle.units.specs.Ranges.{Account, accounts}
 use Rattle.formulas.specs.Basis.{Basis, Bilateral, contracts}
 use Rattle.formulas.specs.Figures.{BEQ, BSC, FEE, GESC, HEUA, HEUC, LESD, NASC, VCSC, balanced, from-contract, own-FEE, own-VCSC, total-load}
-use Rattle.formulas.specs.Laws.{Conserved, Parties}
+use Rattle.formulas.specs.Laws.{Conserved}
 use Rattle.formulas.specs.Sums.{sum}
 use Rattle.formulas.proofs.Sums.{sum-add, sum-same, sum-single, sum-sub, sum-swap, sum-zero}
 use Rattle.formulas.proofs.Shares.{uplift-shared}
+
+-- every party named in the half hour is an account
+pub record Parties (i : Basis) : Type 0 where
+  pub counterparty : Account (i .counterparty)
+  pub operator : Account (i .operator)
+  pub traders : (n : ℕ) → Cases (i .contract n) (Unit {0}) (λ c. Account (c .seller) × Account (c .buyer))
 
 same-test : (a b : ℕ) → eqb a b ≡ eqb b a
 same-test a b = grind (arith, tells)

@@ -1,10 +1,9 @@
--- What corrected readings move, and the payable of a balance.
+-- What corrected readings move.
 use mathlib.Core.Bool.{cond}
 use Prim.Native.Nat.{ℕ}
 use lib.Dec.{eqb}
 use lib.IntN.{ℤ, pos, _+ℤ_, _-ℤ_, _*ℤ_}
 use Rattle.std.specs.declared.option.Option.{Option}
-use Rattle.units.specs.Division.{towards-zero}
 use Rattle.formulas.specs.Basis.{Injection, Withdrawal, over, of-load}
 
 -- what an adjustment of one half hour is worked from: its prices, its uplift rate, and how far each reading moved,
@@ -26,7 +25,3 @@ unfoldable pub NMEA : Moves → ℕ → ℤ
 NMEA m a =
     over (m .facility) a (λ r. r .mep *ℤ r .ieq) -ℤ rate-of m a *ℤ over (m .facility) a (λ r. r .ieq)
     -ℤ (m .usep +ℤ m .uplift) *ℤ of-load (λ l. l .weq) (m .load a) -ℤ rate-of m a *ℤ of-load (λ l. l .wfq) (m .load a)
-
--- the payable of a balance: its whole cents, cut towards zero
-abbrev pub payable : ℤ → ℤ
-payable balance = towards-zero balance 1000

@@ -40,6 +40,7 @@ pub record Vested : Type 0 where
   pub price : ℤ
   pub quantity : ℤ
 
+-- what the figures of one half hour are worked from
 pub record Basis : Type 0 where
   -- the pool price
   pub usep : ℤ

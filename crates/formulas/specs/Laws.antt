@@ -24,12 +24,6 @@ pub record Uplift-shared (i : Basis) : Type 0 where
   -- with no load, every share is 0
   pub nothing : (a : ℕ) → total-load i ≡ 0 → HEUC i a ≡ pos 0
 
--- every party named in the half hour is an account
-pub record Parties (i : Basis) : Type 0 where
-  pub counterparty : Account (i .counterparty)
-  pub operator : Account (i .operator)
-  pub traders : (n : ℕ) → Cases (i .contract n) (Unit {0}) (λ c. Account (c .seller) × Account (c .buyer))
-
 -- Nothing is gained or lost between the accounts.
 pub record Conserved (i : Basis) : Type 0 where
   pub contracts : sum accounts (BSC i) ≡ pos 0

@@ -1,4 +1,4 @@
--- Digits read one at a time, and held to the farthest number at each, write what they write when held at the end.
+-- Digits read one at a time, and clamped to the farthest number at each, write what they write when clamped at the end.
 use mathlib.Core.Bool.{true, false, cond}
 use mathlib.Core.List.{List, [], _∷_}
 use mathlib.Core.Path.{_≡_, refl, sym, _∙_, ap}
@@ -9,31 +9,31 @@ use native.Mathlib.Nat.{not-suc-le-zero}
 use lib.ListN.{length, getD, drop, drop-of-length-le, take}
 use lib.Seq.{drop-cons, take-all}
 use Rattle.std.proofs.shelf.Ways.{tells}
-use Rattle.lines.specs.Numerals.{digits-after, far, held, is-digit, whole-number, written-number}
+use Rattle.lines.specs.Numerals.{digits-after, far, clamped, is-digit, whole-number, written-number}
 use Rattle.std.specs.Options.{mapped}
 use Rattle.std.specs.declared.option.Option.{Option}
 use lib.IntN.{pos, negℤ}
 use Rattle.std.specs.declared.option.Option.the-variants.{Some, None}
 
--- two numbers that are held alike go on alike
-pub held-alike : (cs : List ℕ) (a b : ℕ) → min far a ≡ min far b → held (digits-after a cs) ≡ held (digits-after b cs)
+-- two numbers that are clamped alike go on alike
+pub held-alike : (cs : List ℕ) (a b : ℕ) → min far a ≡ min far b → clamped (digits-after a cs) ≡ clamped (digits-after b cs)
 held-alike [] a b e = ap Some e
 held-alike (c ∷ cs) a b e =
-    elim (is-digit c) as (λ v. held (cond v (digits-after (a * 10 + (c - 48)) cs) None) ≡ held (cond v (digits-after (b * 10 + (c - 48)) cs) None))
+    elim (is-digit c) as (λ v. clamped (cond v (digits-after (a * 10 + (c - 48)) cs) None) ≡ clamped (cond v (digits-after (b * 10 + (c - 48)) cs) None))
     [ true ↦ held-alike cs (a * 10 + (c - 48)) (b * 10 + (c - 48)) (omega (arith, e)) | false ↦ refl ]
 
 -- one digit more
-pub one-digit : (l : List ℕ) (i n m : ℕ) → i < length l → is-digit (getD l i 0) ≡ true → min far m ≡ min far (n * 10 + (getD l i 0 - 48)) → held (digits-after m (drop (i + 1) l)) ≡ held (digits-after n (drop i l))
+pub one-digit : (l : List ℕ) (i n m : ℕ) → i < length l → is-digit (getD l i 0) ≡ true → min far m ≡ min far (n * 10 + (getD l i 0 - 48)) → clamped (digits-after m (drop (i + 1) l)) ≡ clamped (digits-after n (drop i l))
 one-digit l i n m h d e =
     held-alike (drop (i + 1) l) m (n * 10 + (getD l i 0 - 48)) e ∙ sym (rw (drop-cons l i 0 h, d, add-one i) refl)
 
 -- something else than a digit
-pub no-digit : (l : List ℕ) (i n : ℕ) → i < length l → is-digit (getD l i 0) ≡ false → held (digits-after n (drop i l)) ≡ held (digits-after 0 l) → whole-number l ≡ None
+pub no-digit : (l : List ℕ) (i n : ℕ) → i < length l → is-digit (getD l i 0) ≡ false → clamped (digits-after n (drop i l)) ≡ clamped (digits-after 0 l) → whole-number l ≡ None
 no-digit [] i n h d e = refl
 no-digit (c ∷ cs) i n h d e = sym e ∙ (rw (drop-cons (c ∷ cs) i 0 h, d) refl)
 
 -- every digit is read
-pub all-read : (l : List ℕ) (i n : ℕ) → length l ≤ i → 0 < length l → n ≤ far → held (digits-after n (drop i l)) ≡ held (digits-after 0 l) → Some n ≡ whole-number l
+pub all-read : (l : List ℕ) (i n : ℕ) → length l ≤ i → 0 < length l → n ≤ far → clamped (digits-after n (drop i l)) ≡ clamped (digits-after 0 l) → Some n ≡ whole-number l
 all-read [] i n h some le e = absurd (not-suc-le-zero some)
 all-read (c ∷ cs) i n h some le e =
     let same : n ≡ min far n = omega arith in
@@ -50,7 +50,7 @@ pub digit : (c : ℕ) → 48 ≤ c → c ≤ 57 → is-digit c ≡ true
 digit c h k = grind (arith, tells)
 
 -- no number that is read lies beyond the farthest
-held-small : (o : Option ℕ) (n : ℕ) → Some n ≡ held o → n ≤ far
+held-small : (o : Option ℕ) (n : ℕ) → Some n ≡ clamped o → n ≤ far
 held-small None n e = let z : _≡_ {A = ℕ} 0 1 = cc in omega arith
 held-small (Some m) n e = let same : n ≡ min far m = cc in omega arith
 

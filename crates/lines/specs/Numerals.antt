@@ -22,15 +22,15 @@ digits-after n [] = Some n
 digits-after n (c ∷ cs) = cond (is-digit c) (digits-after (n * 10 + (c - 48)) cs) None
 
 -- a number, or the farthest that is told apart
-abbrev pub held : Option ℕ → Option ℕ
-held o = mapped (min far) o
+abbrev pub clamped : Option ℕ → Option ℕ
+clamped o = mapped (min far) o
 
--- the number that one or more digits write, held to the farthest
+-- the number that one or more digits write, clamped to the farthest
 abbrev pub whole-number : List ℕ → Option ℕ
 whole-number [] = None
-whole-number (c ∷ cs) = held (digits-after 0 (c ∷ cs))
+whole-number (c ∷ cs) = clamped (digits-after 0 (c ∷ cs))
 
--- the number that an optional minus and one or more digits write, held to the farthest on either side of zero
+-- the number that an optional minus and one or more digits write, clamped to the farthest on either side of zero
 abbrev pub written-number : List ℕ → Option ℤ
 written-number [] = None
 written-number (c ∷ cs) = cond (eqb c 45) (mapped (λ n. negℤ (pos n)) (whole-number cs)) (mapped pos (whole-number (c ∷ cs)))

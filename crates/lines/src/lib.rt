@@ -1,5 +1,4 @@
-// The lines that a clerk writes: words and numbers with commas between them, read byte by byte.
-pub mod entry;
+// Numbers as a clerk writes them, of any length, and the places of commas and line ends.
 #[cfg(test)]
 mod tests;
 pub mod text;

@@ -21,24 +21,6 @@ pub fn place_of(text: &[u8], byte: u8) -> usize
     text.len()
 }
 
-// Whether a byte around a line is dropped: a blank, a tab or a carriage return.
-fn is_blank(byte: u8) -> bool {
-    byte == b' ' || byte == b'\t' || byte == b'\r'
-}
-
-// A line without the blanks around it.
-pub fn trimmed(line: &[u8]) -> &[u8] {
-    let mut from = 0;
-    while from < line.len() && is_blank(line[from]) {
-        from += 1;
-    }
-    let mut to = line.len();
-    while from < to && is_blank(line[to - 1]) {
-        to -= 1;
-    }
-    &line[from..to]
-}
-
 // The number that one or more digits write, held to FAR; none where there is no digit or something else.
 fn magnitude(digits: &[u8]) -> Option<u64>
     ensures { λ r. ⌜ r ≡ whole-number (now (digits .entry)) ⌝ }

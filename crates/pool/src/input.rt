@@ -7,17 +7,16 @@ use crate::desk::Stop;
 use crate::desk::StopFromRefusal;
 use crate::desk::house_of;
 use crate::desk::open_of;
+use crate::entry::Entry;
+use crate::entry::HouseLine;
+use crate::entry::IntervalLine;
+use crate::entry::parse;
 use crate::posting::Balance;
 use crate::posting::balances_of;
 use crate::tally::Tally;
 use figures::Figures;
 use figures::settle;
-use lines::entry::Entry;
-use lines::entry::HouseLine;
-use lines::entry::IntervalLine;
-use lines::entry::parse;
 use lines::text::place_of;
-use lines::text::trimmed;
 use records::Inputs;
 use units::ACCOUNTS;
 use units::Refusal;
@@ -41,6 +40,24 @@ pub struct Settled {
 struct Opened {
     open: Open,
     number: usize,
+}
+
+// Whether a byte around a line is dropped: a blank, a tab or a carriage return.
+fn is_blank(byte: u8) -> bool {
+    byte == b' ' || byte == b'\t' || byte == b'\r'
+}
+
+// A line without the blanks around it.
+pub(crate) fn trimmed(line: &[u8]) -> &[u8] {
+    let mut from = 0;
+    while from < line.len() && is_blank(line[from]) {
+        from += 1;
+    }
+    let mut to = line.len();
+    while from < to && is_blank(line[to - 1]) {
+        to -= 1;
+    }
+    &line[from..to]
 }
 
 // The first line of a text, without the blanks around it.

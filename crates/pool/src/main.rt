@@ -1,9 +1,12 @@
 // The settlement of one half hour, read from standard input: its figures, or the line at which it stops.
 mod desk;
+mod entry;
 mod input;
 mod posting;
 mod print;
 mod tally;
+#[cfg(test)]
+mod tests;
 
 use crate::input::answer;
 use crate::print::print_answer;

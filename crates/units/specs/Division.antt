@@ -15,3 +15,7 @@ nearest n d = floor (pos 2 *ℤ n +ℤ pos d) (2 * d)
 abbrev pub towards-zero : ℤ → ℕ → ℤ
 towards-zero (pos n) d = pos (n / d)
 towards-zero (negsuc n) d = negℤ (pos (suc n / d))
+
+-- an amount of millicents in whole cents, cut towards zero; a cent is 1,000 millicents
+unfoldable pub whole-cents : ℤ → ℤ
+whole-cents z = towards-zero z 1000

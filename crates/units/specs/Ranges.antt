@@ -26,25 +26,31 @@ accounts = 96
 abbrev pub Account : ℕ → Type 0
 Account a = (1 ≤ a) × (a ≤ accounts)
 
--- the ranges of the numbers that are handed in
+-- a house
 abbrev pub house-range : Range
 house-range = record { low = pos 0; high = pos 65535 }
 
+-- a trading day
 abbrev pub day-range : Range
 day-range = record { low = pos 1; high = pos 40000 }
 
+-- an interval of a day
 abbrev pub interval-range : Range
 interval-range = record { low = pos 1; high = pos 48 }
 
+-- an account or a participant
 abbrev pub account-range : Range
 account-range = record { low = pos 1; high = pos accounts }
 
+-- a facility
 abbrev pub facility-range : Range
 facility-range = record { low = pos 1; high = pos 128 }
 
+-- a bilateral contract of a half hour
 abbrev pub contract-range : Range
 contract-range = record { low = pos 1; high = pos 64 }
 
+-- a vesting tranche
 abbrev pub tranche-range : Range
 tranche-range = record { low = pos 0; high = pos 2 }
 
@@ -68,10 +74,11 @@ quantity-range = record { low = pos 0; high = pos 10000000 }
 abbrev pub fraction-range : Range
 fraction-range = record { low = pos 0; high = pos 10000 }
 
--- the two parts of a stamp
+-- the business days of a stamp
 abbrev pub days-range : Range
 days-range = record { low = pos 0; high = pos 1000 }
 
+-- the minute of a stamp
 abbrev pub minute-range : Range
 minute-range = record { low = pos 0; high = pos 1439 }
 

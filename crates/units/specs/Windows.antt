@@ -1,8 +1,9 @@
--- The number of each window.
+-- The windows by number.
 use Prim.Native.Nat.{ℕ}
 use Rattle.units.specs.declared.window.Window.{Window}
 use Rattle.units.specs.declared.window.Window.the-variants.{First, Second, Third, Fourth, Fifth}
 
+-- the number of each window
 abbrev pub window-number : Window → ℕ
 window-number First = 1
 window-number Second = 2

@@ -1,0 +1,5 @@
+pub mod Gathered
+pub mod Keys
+pub mod Phases
+pub mod Rows
+pub mod Values
