@@ -1,5 +1,5 @@
 -- The range of every number that the charter names.
-use Rattle.std.specs.Prelude.{◌≡◌, ℕ, ◌≤◌, Bool, true, false, ◌&&◌, ℤ, pos, neg_ℤ, ◌≤ℤ◌, int_le}
+use Rattle.std.specs.Prelude.{ℕ, ◌≤◌, Bool, ◌&&◌, ℤ, pos, neg_ℤ, ◌≤ℤ◌, int_le}
 use Rattle.units.specs.declared.range.Range.{Range}
 
 -- whether z lies in the range, both ends included

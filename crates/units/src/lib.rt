@@ -1,5 +1,7 @@
 // The units of a settlement and what every layer above shares: energy, prices and money, quotients in the three
 // roundings, the ranges of the charter's numbers, stamps with their windows, half hours, and the refusals.
+#![tactic(auto)]
+
 pub mod division;
 pub mod half_hour;
 pub mod quantity;

@@ -7,13 +7,13 @@ ghost use Rattle.units.specs.Ranges.{balance_range, inside};
 use crate::range::BALANCE_LIMIT;
 use std::ops::{Add, Sub};
 
-#[derive(Clone, Copy)]
+#[derive(Clone, Copy, PartialEq, Eq, Debug)]
 pub struct Energy(pub i64);
 
-#[derive(Clone, Copy)]
+#[derive(Clone, Copy, PartialEq, Eq, Debug)]
 pub struct Price(pub i64);
 
-#[derive(Clone, Copy)]
+#[derive(Clone, Copy, PartialEq, Eq, Debug)]
 pub struct Money(pub i128);
 
 impl Energy {

@@ -6,7 +6,7 @@ ghost use Rattle.units.specs.declared.refusal.Refusal.TheVariants.{OutOfRange};
 
 use crate::refusal::Refusal;
 
-#[derive(Clone, Copy)]
+#[derive(Clone, Copy, PartialEq, Eq, Debug)]
 pub struct Range {
     pub low: i64,
     pub high: i64,

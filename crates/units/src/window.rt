@@ -9,7 +9,7 @@ use crate::range::{DAYS, MINUTE};
 use crate::refusal::Refusal;
 use crate::stamp::Stamp;
 
-#[derive(Clone, Copy)]
+#[derive(Clone, Copy, PartialEq, Eq, Debug)]
 pub enum Window {
     First,
     Second,
