@@ -1,4 +1,6 @@
 // Adjustments: what the corrected readings of a half hour add to every account (NMEA), in one pass over what moved.
+#![tactic(auto)]
+
 mod adjust;
 mod moved;
 

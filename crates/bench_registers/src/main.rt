@@ -1,5 +1,7 @@
 // How long a put and a gathering take over registers of a given number of rows. With no number it only says how it is
 // run.
+#![tactic(auto)]
+
 use anyhow::anyhow;
 use gather::inputs_of;
 use records::{Inputs, Terms};

@@ -1,4 +1,6 @@
 // Books: what every book shows, the books that a pool keeps, and the posting of a whole statement over any of them.
+#![tactic(auto)]
+
 mod balances;
 pub mod cent_layer;
 pub mod entry;

@@ -1,4 +1,6 @@
 // Calls as they are handed in: plain numbers, held to no range yet. The house holds each number to its range.
+#![tactic(auto)]
+
 use units::ACCOUNTS;
 
 // The opening of a house: its number, the counterparty account, the operator account, and each account's participant.

@@ -1,5 +1,6 @@
 // Tests of the ends of every range and of the gathering, in a crate of their own so that no other crate is proved again
 // for them.
+#![tactic(auto)]
 
 #[cfg(test)]
 mod gathered;

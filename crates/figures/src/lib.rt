@@ -1,5 +1,7 @@
 // The figures of one half hour: `settle` works all of them in one pass over the inputs, and its contract equates each
 // with its formula.
+#![tactic(auto)]
+
 mod contracts;
 mod fees;
 mod injected;

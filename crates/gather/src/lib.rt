@@ -1,4 +1,6 @@
 // One half hour's inputs, and the differences of its corrections, gathered from the registers in one pass over each.
+#![tactic(auto)]
+
 mod base;
 mod gather;
 pub mod inputs;

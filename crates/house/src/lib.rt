@@ -1,4 +1,6 @@
 // The settlement house: its opening, its intervals, and what is handed in for them.
+#![tactic(auto)]
+
 mod agreed;
 mod facilities;
 mod house;

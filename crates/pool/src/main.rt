@@ -1,4 +1,6 @@
 // The settlement house at a desk: calls are read from standard input, a line each, and each is answered in its turn.
+#![tactic(auto)]
+
 mod answer;
 mod desk;
 mod held;

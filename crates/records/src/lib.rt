@@ -1,5 +1,7 @@
 // What is handed in for one half hour, in types that cannot hold a number outside its range: readings, contracts and
 // vesting rows, and the inputs that a half hour's figures are worked from.
+#![tactic(auto)]
+
 pub mod entries;
 pub mod inputs;
 pub mod moves;

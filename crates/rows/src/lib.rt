@@ -1,5 +1,7 @@
 // The five kinds of row that the house keeps, in types that cannot hold a number outside its range: intervals, facility
 // readings, load readings, bilateral contracts and vesting rows.
+#![tactic(auto)]
+
 pub mod contract;
 pub mod facility;
 pub mod interval;

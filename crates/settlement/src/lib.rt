@@ -1,4 +1,6 @@
 // Settlement over any book: the first and the second adjustment of a half hour.
+#![tactic(auto)]
+
 mod adjusting;
 mod step;
 

@@ -1,5 +1,7 @@
 // Preliminary statements: their writing, their withdrawal and their final, and what a participant is credited over a
 // statement's lines.
+#![tactic(auto)]
+
 mod finalising;
 mod participants;
 mod preliminary;
