@@ -1,213 +1,219 @@
-// The desk of an open house: its registers, the lines that were written last, and the statements that it has yet to end.
-use crate::answer::Answer;
-use crate::held::place_held;
-use crate::input::{after_line, first_line};
-use crate::print::{print_answer, print_lines, print_withdrawn};
-use calls::{
-    ContractCall, FacilityCall, HalfHourCall, IntervalCall, LoadCall, StampedCall, VestingCall,
+// The desk at which a half hour is taken in, line by line, each held to the charter's checks in their order.
+ghost use Rattle.std.specs.Prelude.{◌<◌, IfOk};
+ghost use Rattle.units.specs.Ranges.{accounts};
+
+use crate::entry::{
+    ContractLine, Entry, FacilityLine, HouseLine, IntervalLine, LoadLine, VestingLine,
 };
-use figures::Line;
-use format::line::said;
-use format::said::Said;
-use house::{House, read_facility, read_load, take_contract};
-use rows::{ContractRow, FacilityReading, Interval, LoadReading, VestingRow};
-use statement::{Statement, npsc, withdraw, write_preliminary};
-use std::alloc::{AllocError, Global};
-use std::io;
-use units::{ACCOUNTS, Money};
+use records::{Contract, Facility, Inputs, Load, Terms, Tranches, Vesting};
+use units::range::{ACCOUNT, CONTRACT, FACILITY, HOUSE, TRANCHE};
+use units::{ACCOUNTS, HalfHour, Refusal, Stamp, Window};
 
-// The rows that each register has room for.
-const ROWS: usize = 512;
-
-// A statement can be neither dropped nor copied, and so can no desk be dropped: it is closed.
-pub(crate) struct Desk {
-    house: House,
-    intervals: Vec<Option<Interval>>,
-    facilities: Vec<Option<FacilityReading>>,
-    loads: Vec<Option<LoadReading>>,
-    contracts: Vec<Option<ContractRow>>,
-    vestings: Vec<Option<VestingRow>>,
-    // of the last accepted preliminary statement
-    lines: Option<[Line; ACCOUNTS]>,
-    // in the order in which they were handed out
-    statements: Vec<Statement>,
+// Why the desk stops at a line.
+#[derive(Clone, Copy)]
+pub enum Stop {
+    Malformed,
+    NoHouse,
+    NoInterval,
+    // a line was refused
+    Refused(Refusal),
+    // every line was taken, and the half hour cannot be settled
+    Unsettled(Refusal),
 }
 
-// A line to be written over.
-fn blank() -> Line {
-    let nothing = Money(0);
-    Line {
-        account: 1,
-        gesc: nothing,
-        lesd: nothing,
-        bsc: nothing,
-        vcsc: nothing,
-        fee: nothing,
-        heuc: nothing,
-        nasc: nothing,
+impl From<Refusal> for Stop {
+    fn from(refusal: Refusal) -> Stop {
+        Stop::Refused(refusal)
     }
 }
 
-impl Desk {
-    // The desk of a house, with every register vacant and nothing held.
-    pub(crate) fn new(heap: Global, house: House) -> Result<Desk, AllocError> {
-        let intervals = vec![in heap; None; ROWS]?;
-        let facilities = vec![in heap; None; ROWS]?;
-        let loads = vec![in heap; None; ROWS]?;
-        let contracts = vec![in heap; None; ROWS]?;
-        let vestings = vec![in heap; None; ROWS]?;
-        Ok(Desk {
-            house,
-            intervals,
-            facilities,
-            loads,
-            contracts,
-            vestings,
-            lines: None,
-            statements: Vec::new(heap),
-        })
-    }
+// The two standing accounts.
+#[derive(Clone, Copy)]
+pub struct House {
+    counterparty: u16,
+    operator: u16,
+}
 
-    fn interval(&mut self, call: &IntervalCall) -> Answer {
-        let intervals = self.intervals.as_mut_slice();
-        Answer::of(self.house.open_interval(intervals, call))
-    }
+// The half hour that is open, what it has been handed, and the last accepted stamp.
+#[derive(Clone, Copy)]
+pub struct Open {
+    half_hour: HalfHour,
+    last: Stamp,
+    pub inputs: Inputs,
+}
 
-    fn facility(&mut self, call: &FacilityCall) -> Answer {
-        let intervals = self.intervals.as_mut_slice();
-        let facilities = self.facilities.as_mut_slice();
-        Answer::of(read_facility(intervals, facilities, call))
+fn check_participants(participants: &[i64; ACCOUNTS]) -> Result<(), Refusal> {
+    for p in participants {
+        ACCOUNT.take(*p)?;
     }
+    Ok(())
+}
 
-    fn load(&mut self, call: &LoadCall) -> Answer {
-        let intervals = self.intervals.as_mut_slice();
-        let loads = self.loads.as_mut_slice();
-        Answer::of(read_load(intervals, loads, call))
+pub(crate) fn house_of(line: &HouseLine) -> Result<House, Refusal> {
+    HOUSE.take(line.number)?;
+    let counterparty = ACCOUNT.take(line.counterparty)? as u16;
+    let operator = ACCOUNT.take(line.operator)? as u16;
+    check_participants(&line.participants)?;
+    if counterparty == operator {
+        return Err(Refusal::SameParty);
     }
+    Ok(House {
+        counterparty,
+        operator,
+    })
+}
 
-    fn contract(&mut self, call: &ContractCall) -> Answer {
-        let intervals = self.intervals.as_slice();
-        let contracts = self.contracts.as_mut_slice();
-        Answer::of(take_contract(intervals, contracts, call))
-    }
+pub(crate) fn open_of(house: House, line: &IntervalLine) -> Result<Open, Refusal> {
+    let half_hour = HalfHour::new(line.day, line.interval)?;
+    let counterparty = i64::from(house.counterparty);
+    let operator = i64::from(house.operator);
+    let terms = Terms::new(line.usep, line.rate, counterparty, operator)?;
+    let last = Stamp::new(0, 0)?;
+    Ok(Open {
+        half_hour,
+        last,
+        inputs: Inputs::new(&terms),
+    })
+}
 
-    fn vesting(&mut self, call: &VestingCall) -> Answer {
-        let intervals = self.intervals.as_slice();
-        let vestings = self.vestings.as_mut_slice();
-        Answer::of(self.house.take_vesting(intervals, vestings, call))
-    }
-
-    // Makes room for the statement first, so that none is handed out that could not be held.
-    fn preliminary(&mut self, call: &StampedCall) -> Result<Answer, AllocError> {
-        self.statements.reserve(1)?;
-        let mut lines = [blank(); ACCOUNTS];
-        let written = write_preliminary(
-            &self.house,
-            self.intervals.as_mut_slice(),
-            self.facilities.as_slice(),
-            self.loads.as_slice(),
-            self.contracts.as_slice(),
-            self.vestings.as_slice(),
-            &mut lines,
-            call,
-        );
-        match written {
-            Ok(statement) => {
-                self.statements.push_reserved(statement);
-                self.lines = Some(lines);
-                Ok(Answer::Written)
-            }
-            Err(refusal) => Ok(Answer::Refused(refusal)),
+impl Open {
+    fn check_half_hour(&self, given: HalfHour) -> Result<(), Refusal> {
+        if given.day == self.half_hour.day && given.interval == self.half_hour.interval {
+            Ok(())
+        } else {
+            Err(Refusal::NotOpen)
         }
     }
 
-    fn withdrawal(&mut self, call: &HalfHourCall) -> Answer {
-        match place_held(self.statements.as_slice(), call.day, call.interval) {
-            Some(place) => {
-                let statement = self.statements.remove(place);
-                let intervals = self.intervals.as_mut_slice();
-                Answer::of(withdraw(&self.house, intervals, statement))
-            }
-            None => Answer::Missing,
+    fn check_stamp(&self, stamp: Stamp) -> Result<(), Refusal> {
+        if stamp.is_before(self.last) {
+            return Err(Refusal::StampBeforeLast);
+        }
+        match stamp.window() {
+            Window::First => Ok(()),
+            Window::Second => Ok(()),
+            _ => Err(Refusal::WrongWindow),
         }
     }
 
-    // The lines that were written last: none before the first accepted preliminary statement.
-    fn lines(&self) -> &[Line] {
-        match &self.lines {
-            Some(lines) => lines,
-            None => &[],
-        }
+    // The place, the reading and the stamp of a facility line.
+    fn facility_of(&self, line: &FacilityLine) -> Result<(usize, Facility, Stamp), Refusal>
+        ensures { IfOk result (λ t. t.0 < 128) }
+    {
+        let half_hour = HalfHour::new(line.day, line.interval)?;
+        let facility = FACILITY.take(line.facility)?;
+        let reading = Facility::new(line.account, line.mep, line.ieq)?;
+        let stamp = Stamp::new(line.days, line.minute)?;
+        self.check_half_hour(half_hour)?;
+        self.check_stamp(stamp)?;
+        Ok((facility as usize - 1, reading, stamp))
     }
 
-    fn credit(&self, participant: i64) -> Answer {
-        match npsc(&self.house, participant, self.lines()) {
-            Ok(amount) => Answer::Credited(participant, amount),
-            Err(refusal) => Answer::Refused(refusal),
-        }
+    // The place, the reading and the stamp of a load line.
+    fn load_of(&self, line: &LoadLine) -> Result<(usize, Load, Stamp), Refusal>
+        ensures { IfOk result (λ t. t.0 < accounts) }
+    {
+        let half_hour = HalfHour::new(line.day, line.interval)?;
+        let account = ACCOUNT.take(line.account)? as u16;
+        let reading = Load::new(line.weq, line.wfq)?;
+        let stamp = Stamp::new(line.days, line.minute)?;
+        self.check_half_hour(half_hour)?;
+        self.check_stamp(stamp)?;
+        Ok((account as usize - 1, reading, stamp))
     }
 
-    // The answer to a line, if it has one.
-    fn answer(&mut self, line: &[u8]) -> Result<Option<Answer>, AllocError> {
-        let answer = match said(line) {
-            Said::Nothing => return Ok(None),
-            Said::Malformed => Answer::Malformed,
-            Said::House(_) => Answer::HouseOpen,
-            Said::Interval(call) => self.interval(&call),
-            Said::Facility(call) => self.facility(&call),
-            Said::Load(call) => self.load(&call),
-            Said::Contract(call) => self.contract(&call),
-            Said::Vesting(call) => self.vesting(&call),
-            Said::Preliminary(call) => self.preliminary(&call)?,
-            Said::Withdraw(call) => self.withdrawal(&call),
-            Said::Npsc(participant) => self.credit(participant),
-        };
-        Ok(Some(answer))
+    // The place and the terms of a contract line.
+    fn contract_of(&self, line: &ContractLine) -> Result<(usize, Contract), Refusal>
+        ensures { IfOk result (λ t. t.0 < 64) }
+    {
+        let half_hour = HalfHour::new(line.day, line.interval)?;
+        let number = CONTRACT.take(line.contract)?;
+        let contract = Contract::new(line.seller, line.buyer, line.baq, line.bwf, line.bif)?;
+        if contract.seller == contract.buyer {
+            return Err(Refusal::SameParty);
+        }
+        self.check_half_hour(half_hour)?;
+        Ok((number as usize - 1, contract))
     }
 
-    fn answer_line(&mut self, rt: &HostRuntime, line: &[u8]) -> io::Result<()> {
-        match self.answer(line)? {
-            None => Ok(()),
-            Some(Answer::Written) => {
-                print_answer(rt, Answer::Written)?;
-                print_lines(rt, self.lines())
-            }
-            Some(answer) => print_answer(rt, answer),
+    // The place, the tranche and the row of a vesting line.
+    fn vesting_of(&self, line: &VestingLine) -> Result<(usize, u8, Vesting), Refusal>
+        ensures { IfOk result (λ t. t.0 < accounts) }
+    {
+        let half_hour = HalfHour::new(line.day, line.interval)?;
+        let account = ACCOUNT.take(line.account)? as u16;
+        let tranche = TRANCHE.take(line.tranche)? as u8;
+        let row = Vesting::new(line.price, line.quantity)?;
+        if account == self.inputs.counterparty {
+            return Err(Refusal::SameParty);
         }
+        self.check_half_hour(half_hour)?;
+        Ok((account as usize - 1, tranche, row))
     }
 
-    // Answers each line of the input.
-    pub(crate) fn answer_lines(&mut self, rt: &HostRuntime, input: &[u8]) -> io::Result<()> {
-        let mut rest = input;
-        while !rest.is_empty() {
-            self.answer_line(rt, first_line(rest))?;
-            rest = after_line(rest);
-        }
+    fn take_facility(&mut self, line: &FacilityLine) -> Result<(), Refusal> {
+        let (place, reading, stamp) = self.facility_of(line)?;
+        self.inputs.facilities[place] = Some(reading);
+        self.last = stamp;
         Ok(())
     }
 
-    // Withdraws every statement that is still held, and says so of each for as long as it can.
-    pub(crate) fn close(self, rt: &HostRuntime) -> io::Result<()> {
-        let Desk {
-            house,
-            mut intervals,
-            facilities: _,
-            loads: _,
-            contracts: _,
-            vestings: _,
-            lines: _,
-            mut statements,
-        } = self;
-        let mut told = Ok(());
-        while !statements.is_empty() {
-            let statement = statements.remove(0);
-            let half_hour = statement.half_hour();
-            let ended = withdraw(&house, intervals.as_mut_slice(), statement);
-            if told.is_ok() {
-                told = print_withdrawn(rt, half_hour, ended);
-            }
+    fn take_load(&mut self, line: &LoadLine) -> Result<(), Refusal> {
+        let (place, reading, stamp) = self.load_of(line)?;
+        self.inputs.loads[place] = Some(reading);
+        self.last = stamp;
+        Ok(())
+    }
+
+    fn take_contract(&mut self, line: &ContractLine) -> Result<(), Refusal> {
+        let (place, contract) = self.contract_of(line)?;
+        self.inputs.contracts[place] = Some(contract);
+        Ok(())
+    }
+
+    fn take_vesting(&mut self, line: &VestingLine) -> Result<(), Refusal> {
+        let (place, tranche, row) = self.vesting_of(line)?;
+        let rows = self.inputs.vestings[place];
+        self.inputs.vestings[place] = with_row(rows, tranche, row);
+        Ok(())
+    }
+
+    // Takes what a line says of the half hour; a second house or interval has no place here.
+    pub(crate) fn take(&mut self, entry: &Entry) -> Result<(), Stop> {
+        match entry {
+            Entry::House(_) => return Err(Stop::Malformed),
+            Entry::Interval(_) => return Err(Stop::Malformed),
+            Entry::Facility(line) => self.take_facility(line)?,
+            Entry::Load(line) => self.take_load(line)?,
+            Entry::Contract(line) => self.take_contract(line)?,
+            Entry::Vesting(line) => self.take_vesting(line)?,
         }
-        statements.destroy_empty();
-        told
+        Ok(())
+    }
+}
+
+// The vesting rows of an account with this one in its tranche.
+fn with_row(rows: Tranches, tranche: u8, row: Vesting) -> Tranches {
+    let Tranches {
+        base,
+        first,
+        second,
+    } = rows;
+    match tranche {
+        0 => Tranches {
+            base: Some(row),
+            first,
+            second,
+        },
+        1 => Tranches {
+            base,
+            first: Some(row),
+            second,
+        },
+        _ => Tranches {
+            base,
+            first,
+            second: Some(row),
+        },
     }
 }

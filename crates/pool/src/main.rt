@@ -1,34 +1,24 @@
-// The settlement house at a desk: calls are read from standard input, a line each, and each is answered in its turn.
+// The settlement of one half hour, read from standard input: its figures, or the line at which it stops.
 #![tactic(auto)]
 
-mod answer;
 mod desk;
-mod held;
+mod entry;
 mod input;
-mod opening;
+mod posting;
 mod print;
+mod tally;
+#[cfg(test)]
+mod tests;
 
-use crate::desk::Desk;
-use crate::opening::open_house;
-use std::io;
+use crate::input::answer;
+use crate::print::print_answer;
 use std::io::Read;
-
-// Answers the calls of an input, and withdraws every statement that is then held, also where an answer cannot be given.
-fn answer_calls(rt: &HostRuntime, input: &[u8]) -> io::Result<()> {
-    let Some(opened) = open_house(rt, input)? else {
-        return Ok(());
-    };
-    let mut desk = Desk::new(rt.alloc(), opened.house)?;
-    let answered = desk.answer_lines(rt, &input[input.len() - opened.left..]);
-    let closed = desk.close(rt);
-    answered?;
-    closed
-}
 
 fn run(rt: &HostRuntime) -> anyhow::Result<()> {
     let mut given = Vec::new(rt.alloc());
     rt.stdin().read_to_end(&mut given)?;
-    answer_calls(rt, given.as_slice())?;
+    let input = given.as_slice();
+    print_answer(rt, &answer(input), input)?;
     Ok(())
 }
 

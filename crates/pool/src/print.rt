@@ -1,29 +1,21 @@
-// What the program prints.
-use crate::answer::Answer;
+// What the program prints: the settled half hour, or where it stopped.
+use crate::desk::Stop;
+use crate::input::{Halt, Settled, line_at};
+use crate::posting::Balance;
+use crate::tally::Tally;
 use figures::Line;
 use std::io;
-use units::{HalfHour, Refusal};
+use std::io::Write;
+use units::{ACCOUNTS, Refusal};
 
-fn print_refusal(rt: &HostRuntime, refusal: Refusal) -> io::Result<()> {
-    let number = refusal.number();
-    println!(rt; "refused,{number}")
-}
-
-// The answer to a call, but for the lines of a statement.
-pub(crate) fn print_answer(rt: &HostRuntime, answer: Answer) -> io::Result<()> {
-    match answer {
-        Answer::Malformed => println!(rt; "malformed"),
-        Answer::NoHouse => println!(rt; "no house"),
-        Answer::HouseOpen => println!(rt; "house open"),
-        Answer::Missing => println!(rt; "missing"),
-        Answer::Accepted => println!(rt; "ok"),
-        Answer::Written => println!(rt; "ok"),
-        Answer::Refused(refusal) => print_refusal(rt, refusal),
-        Answer::Credited(participant, amount) => {
-            let amount = amount.0;
-            println!(rt; "npsc,{participant},{amount}")
-        }
-    }
+fn print_tally(rt: &HostRuntime, tally: &Tally) -> io::Result<()> {
+    let facilities = tally.facilities;
+    let loads = tally.loads;
+    let contracts = tally.contracts;
+    let vestings = tally.vestings;
+    println!(rt;
+        "taken,facilities,{facilities},loads,{loads},contracts,{contracts},vesting rows,{vestings}"
+    )
 }
 
 fn print_line(rt: &HostRuntime, line: &Line) -> io::Result<()> {
@@ -38,29 +30,68 @@ fn print_line(rt: &HostRuntime, line: &Line) -> io::Result<()> {
     println!(rt; "{account},{gesc},{lesd},{bsc},{vcsc},{fee},{heuc},{nasc}")
 }
 
-// The lines of a statement: a header, and each line whose NASC is not zero.
-pub(crate) fn print_lines(rt: &HostRuntime, lines: &[Line]) -> io::Result<()> {
-    println!(rt; "account,GESC,LESD,BSC,VCSC,FEE,HEUC,NASC")?;
-    for line in lines {
-        if line.nasc.0 != 0 {
-            print_line(rt, line)?;
+fn print_balance(rt: &HostRuntime, account: usize, balance: &Balance) -> io::Result<()> {
+    let exact = balance.exact.0;
+    let payable = balance.payable.0;
+    println!(rt; "balance,{account},{exact},{payable}")
+}
+
+fn print_balances(rt: &HostRuntime, balances: &[Balance; ACCOUNTS]) -> io::Result<()> {
+    for (k, balance) in balances.iter().enumerate() {
+        if balance.exact.0 != 0 {
+            print_balance(rt, k + 1, balance)?;
         }
     }
     Ok(())
 }
 
-// A statement that was withdrawn at the end of input, or what it was refused by.
-pub(crate) fn print_withdrawn(
-    rt: &HostRuntime,
-    half_hour: HalfHour,
-    ended: Result<(), Refusal>,
-) -> io::Result<()> {
-    match ended {
-        Ok(()) => {
-            let day = half_hour.day;
-            let interval = half_hour.interval;
-            println!(rt; "withdrawn,{day},{interval}")
+fn print_settled(rt: &HostRuntime, settled: &Settled) -> io::Result<()> {
+    print_tally(rt, &settled.tally)?;
+    let rate = settled.figures.uplift.rate.0;
+    println!(rt; "uplift rate,{rate}")?;
+    println!(rt; "account,GESC,LESD,BSC,VCSC,FEE,HEUC,NASC")?;
+    for line in settled.figures.lines.iter() {
+        if line.nasc.0 != 0 {
+            print_line(rt, line)?;
         }
-        Err(refusal) => print_refusal(rt, refusal),
+    }
+    print_balances(rt, &settled.balances)
+}
+
+// A line of the input, with its number.
+fn print_text(rt: &HostRuntime, number: usize, text: &[u8]) -> io::Result<()> {
+    print!(rt; "line {number}: ")?;
+    rt.stdout().write_all(text)?;
+    println!(rt; "")
+}
+
+fn print_refusal(rt: &HostRuntime, refusal: Refusal) -> io::Result<()> {
+    let number = refusal.number();
+    println!(rt; "refused,{number}")
+}
+
+fn print_halt(rt: &HostRuntime, halt: Halt, input: &[u8]) -> io::Result<()> {
+    let number = halt.number;
+    match halt.stop {
+        Stop::Malformed => println!(rt; "malformed,line {number}"),
+        Stop::NoHouse => println!(rt; "no house,line {number}"),
+        Stop::NoInterval => println!(rt; "no interval,line {number}"),
+        Stop::Unsettled(refusal) => print_refusal(rt, refusal),
+        Stop::Refused(refusal) => {
+            print_refusal(rt, refusal)?;
+            print_text(rt, number, line_at(input, number))
+        }
+    }
+}
+
+// Prints what the input came to.
+pub(crate) fn print_answer(
+    rt: &HostRuntime,
+    answer: &Result<Settled, Halt>,
+    input: &[u8],
+) -> io::Result<()> {
+    match answer {
+        Ok(settled) => print_settled(rt, settled),
+        Err(halt) => print_halt(rt, *halt, input),
     }
 }

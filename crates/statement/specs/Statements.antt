@@ -53,7 +53,7 @@ pub record LinesWritten (k : Numbers) (is : List (Option IntervalSaid)) (basis :
 -- the statement has the house's number, the day and the interval
 pub record StatementOf (number : ℕ) (c : StampedCall) (s : Statement) : Type 0 where
   pub house : s.house ≡ number
-  pub worked_half_hour : key_of s.half_hour ≡ stamped_key c
+  pub half_hour : key_of s.half_hour ≡ stamped_key c
 
 -- whether there is an open interval, and it is in the preliminary phase
 abbrev pub is_preliminary : Option IntervalSaid → Bool

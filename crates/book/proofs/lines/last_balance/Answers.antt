@@ -6,11 +6,11 @@ use Rattle.book.specs.Lines.{balance_in}
 use Rattle.book.proofs.Used.{next_line, last_more, last_stops}
 use Rattle.book.proofs.lines.last_balance.Goals as goal
 
-pub returns-in-default : goal.returns-in-default
-returns-in-default c =
+pub returns-in_default : goal.returns-in_default
+returns-in_default c =
     let ls = c.args.lines.now in
     let i = c.loop-line.line-index in
-    let here : drop i ls ≡ None ∷ drop (i + 1) ls = next_line ls i c.line-item.result c.loop-line-test.true c.line-item.is ∙ ap (λ x. x ∷ drop (i + 1) ls) c.in-default.is in
+    let here : drop i ls ≡ None ∷ drop (i + 1) ls = next_line ls i c.line-item.result c.loop-line-test.true c.line-item.is ∙ ap (λ x. x ∷ drop (i + 1) ls) c.in_default.is in
     last_stops _ (balance_in ls c.args.account) c.args.account (drop i ls) (None ∷ drop (i + 1) ls) here refl c.loop-line.invariant
 
 pub loop-line-preserved : goal.loop-line-preserved

@@ -15,30 +15,30 @@ use Rattle.book.proofs.statement.check_statement.Goals.{then-amount-ne0, else-am
 pub loop-index-init : goal.loop-index-init
 loop-index-init g c = search (rules, count_none)
 
-pub returns-in-err-balance : goal.returns-in-err-balance
-returns-in-err-balance g c =
-    absurd (shown_refused (g.B.Book.held c.args.book.now) (c.loop-index.index + 1) c.in-err-balance.field-0.0 c.in-err-balance.ensures (omega arith, omega arith))
+pub returns-in_err-balance : goal.returns-in_err-balance
+returns-in_err-balance g c =
+    absurd (shown_refused (g.B.Book.held c.args.book.now) (c.loop-index.index + 1) c.in_err-balance.field-0.0 c.in_err-balance.ensures (omega arith, omega arith))
 
-pub returns-in-err-raised : goal.returns-in-err-raised
-returns-in-err-raised g c =
+pub returns-in_err-raised : goal.returns-in_err-raised
+returns-in_err-raised g c =
     let i = c.loop-index.index in
     let held = g.B.Book.held c.args.book.now in
     let amount = amount_of c.args.amounts.now in
-    let shown : c.in-ok-balance.balance.0 ≡ held (i + 1) = c.in-ok-balance.ensures.value in
-    let over : Around balance_limit (held (i + 1) +ℤ amount (i + 1)) → ⊥ = λ w. c.in-err-raised.ensures.1 (omega (arith, ints, shown, amount_at c.args.amounts.now i)) in
-    let p = err_from_is_err_and c.from-residual-in-err-raised.result c.from-residual-in-err-raised.ensures.1 in
-    rw (p.1, p.2) (ap refusal_number c.in-err-raised.ensures.0 ∙ sym (refuses-beyond held (g.B.Book.room c.args.book.now) amount (one_beyond held amount i (omega arith) over)))
+    let shown : c.in_ok-balance.balance.0 ≡ held (i + 1) = c.in_ok-balance.ensures.value in
+    let over : Around balance_limit (held (i + 1) +ℤ amount (i + 1)) → ⊥ = λ w. c.in_err-raised.ensures.1 (omega (arith, ints, shown, amount_at c.args.amounts.now i)) in
+    let p = err_from_is_err_and c.from_residual-in_err-raised.result c.from_residual-in_err-raised.ensures.1 in
+    rw (p.1, p.2) (ap refusal_number c.in_err-raised.ensures.0 ∙ sym (refuses-beyond held (g.B.Book.room c.args.book.now) amount (one_beyond held amount i (omega arith) over)))
 
-pub overflow-add-needed : goal.overflow-add-needed
-overflow-add-needed g c = omega (arith, c.loop-index.invariant.1, count_at_most c.loop-index.index (is_posted (amount_of c.args.amounts.now)))
+pub overflow_add-needed : goal.overflow_add-needed
+overflow_add-needed g c = omega (arith, c.loop-index.invariant.1, count_at_most c.loop-index.index (is_posted (amount_of c.args.amounts.now)))
 
 pub loop-index-preserved : goal.loop-index-preserved
 loop-index-preserved g c =
     let i = c.loop-index.index in
     let held = g.B.Book.held c.args.book.now in
     let amount = amount_of c.args.amounts.now in
-    let shown : c.in-ok-balance.balance.0 ≡ held (i + 1) = c.in-ok-balance.ensures.value in
-    let fine : Around balance_limit (held (i + 1) +ℤ amount (i + 1)) = omega (arith, ints, shown, amount_at c.args.amounts.now i, c.in-ok-raised.ensures.0, c.in-ok-raised.ensures.1) in (
+    let shown : c.in_ok-balance.balance.0 ≡ held (i + 1) = c.in_ok-balance.ensures.value in
+    let fine : Around balance_limit (held (i + 1) +ℤ amount (i + 1)) = omega (arith, ints, shown, amount_at c.args.amounts.now i, c.in_ok-raised.ensures.0, c.in_ok-raised.ensures.1) in (
       none_beyond held amount i c.loop-index.invariant.0 fine,
       elim c.if-amount-ne0.branch [
         | then-amount-ne0 w ↦ omega (arith, w.needed-is, c.loop-index.invariant.1, counted amount i (λ e. w.if-amount-ne0.true (ap (of_z w128) (sym (amount_at c.args.amounts.now i) ∙ e))))

@@ -7,7 +7,7 @@ post-each-requires g c =
     let held = g.B.Book.held c.args.book.now in
     let room = g.B.Book.room c.args.book.now in
     let amount = amount_of c.args.amounts.now in
-    let clear = none-met held room amount c.in-ok-check-statement.ensures in
+    let clear = none-met held room amount c.in_ok-check-statement.ensures in
     (all_fine held amount clear.0, clear.1)
 
 pub returns : goal.returns
@@ -15,7 +15,7 @@ returns g c =
     let b = g.B.Book in
     let told = c.post-each.ensures in
     record {
-      answer = c.in-ok-check-statement.ensures;
+      answer = c.in_ok-check-statement.ensures;
       accepted = settled b.held b.room b.takes (amount_of c.args.amounts.now) c.args.book.now c.post-each.new.book told.turns;
       turns = told.turns;
       refused = tt;

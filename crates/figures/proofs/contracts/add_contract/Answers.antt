@@ -26,8 +26,8 @@ credit-requires c =
     let x = moved c.args.inputs.now c.in-Some.c _ _ c.contracted.ensures c.at-amount.ensures in
     record { account = c.in-Some.c.buyer_ok; before = λ a ok. omega (arith, ints, c.requires.before a ok); by = omega (arith, ints) }
 
-pub overflow-sub-amount : goal.overflow-sub-amount
-overflow-sub-amount c = let x = moved c.args.inputs.now c.in-Some.c _ _ c.contracted.ensures c.at-amount.ensures in omega (arith, ints)
+pub overflow_sub-amount : goal.overflow_sub-amount
+overflow_sub-amount c = let x = moved c.args.inputs.now c.in-Some.c _ _ c.contracted.ensures c.at-amount.ensures in omega (arith, ints)
 
 pub credit-requires-in-Some : goal.credit-requires-in-Some
 credit-requires-in-Some c =

@@ -16,8 +16,8 @@ product h q few ok =
     let bound = product_up_to 10000 10000000000 (pos h) q (omega (arith, ints)) ok in
     (simp (to_z-of_z, to_z_pos w128 h (omega arith)), omega (arith, ints))
 
-pub overflow-mul-hundredths : goal.overflow-mul-hundredths
-overflow-mul-hundredths c = let p = product c.args.hundredths c.args.quantity.0 c.requires.fraction c.requires.quantity in rw p.0 p.1
+pub overflow_mul-hundredths : goal.overflow_mul-hundredths
+overflow_mul-hundredths c = let p = product c.args.hundredths c.args.quantity.0 c.requires.fraction c.requires.quantity in rw p.0 p.1
 
 -- the quotient as the code finds it
 quotient : (h : ℕ) (q found : ℤ) → h ≤ 10000 → Within (pos 0) (pos 10000000000) q
@@ -27,8 +27,8 @@ quotient h q found few ok e =
     let is : found ≡ part h q = e ∙ ap (λ z. floor (to_z w128 (of_z w128 z)) 10000) p.0 ∙ ap (λ z. floor z 10000) (to_z-of_z w128 _ p.1) in
     (is, rw is (part_up_to 10000000000 h q few ok))
 
-pub overflow-cast-result : goal.overflow-cast-result
-overflow-cast-result c =
+pub overflow_cast-result : goal.overflow_cast-result
+overflow_cast-result c =
     let is = quotient c.args.hundredths c.args.quantity.0 c.in-Some.whole c.requires.fraction c.requires.quantity c.in-Some.ensures.1 in
     omega (arith, ints)
 

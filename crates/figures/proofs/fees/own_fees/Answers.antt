@@ -32,8 +32,8 @@ energy i xs k o drawn t lt within e =
 pub loop-k-init : goal.loop-k-init
 loop-k-init c = (refl, λ a low high. absurd (omega arith))
 
-pub overflow-add-injected : goal.overflow-add-injected
-overflow-add-injected c =
+pub overflow_add-injected : goal.overflow_add-injected
+overflow_add-injected c =
     (energy c.args.inputs.now c.args.injected.now c.loop-k.k _ _ c.requires c.loop-k-test.true (search rules) c.charged-drawn.ensures).0
 
 pub loop-k-preserved : goal.loop-k-preserved

@@ -10,8 +10,8 @@ use Rattle.figures.proofs.totals.total.Goals as goal
 pub loop-k-init : goal.loop-k-init
 loop-k-init c = (sym (sum_none _), omega (arith, ints))
 
-pub overflow-add-all : goal.overflow-add-all
-overflow-add-all c = omega (arith, ints, c.requires.modest (suc c.loop-k.k) (omega arith))
+pub overflow_add-all : goal.overflow_add-all
+overflow_add-all c = omega (arith, ints, c.requires.modest (suc c.loop-k.k) (omega arith))
 
 pub loop-k-preserved : goal.loop-k-preserved
 loop-k-preserved c = omega (arith, ints, c.requires.modest (suc c.loop-k.k) (omega arith), sum_next c.loop-k.k (amount_at c.args.amounts.now))

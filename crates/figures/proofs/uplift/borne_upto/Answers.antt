@@ -23,8 +23,8 @@ product h c amount load =
 bounds : (i : Inputs) (h c : ℤ) → h ≡ heua_of (basis_of i) → Within (pos 0) (pos (total_load (basis_of i))) c → Around 223840000000000000 h × Within (pos 0) (pos 960000000) c
 bounds i h c e within = (rw e (HEUA-around (basis_of i) (inputs_in_ranges i)), omega (arith, ints, total-load-up-to (basis_of i) (inputs_in_ranges i)))
 
-pub overflow-mul-uplift : goal.overflow-mul-uplift
-overflow-mul-uplift c =
+pub overflow_mul-uplift : goal.overflow_mul-uplift
+overflow_mul-uplift c =
     let b = bounds c.args.inputs.now _ _ c.requires.uplift.amount c.requires.upto in
     let p = product c.args.uplift.now.amount.0 c.args.upto.0 b.0 b.1 in
     rw p.0 p.1

@@ -13,8 +13,8 @@ use Rattle.figures.proofs.uplift.total_earned.Goals as goal
 pub loop-k-init : goal.loop-k-init
 loop-k-init c = sym (sum_none _)
 
-pub overflow-add-all : goal.overflow-add-all
-overflow-add-all c =
+pub overflow_add-all : goal.overflow_add-all
+overflow_add-all c =
     let i = basis_of c.args.inputs.now in
     let ok = inputs_in_ranges c.args.inputs.now in
     omega (arith, ints, total-GESC i (suc c.loop-k.k) _ (c.requires c.loop-k.k c.loop-k-test.true), GESC-around i ok (suc c.loop-k.k), sum_within c.loop-k.k 1280000000000000 (gesc_of i) (λ a _ _. GESC-around i ok a))

@@ -14,8 +14,8 @@ use Rattle.figures.proofs.uplift.total_withdrawn.Goals as goal
 pub loop-k-init : goal.loop-k-init
 loop-k-init c = sym (sum_none _)
 
-pub overflow-add-all : goal.overflow-add-all
-overflow-add-all c =
+pub overflow_add-all : goal.overflow_add-all
+overflow_add-all c =
     let i = c.args.inputs.now in
     let w = drawn_at i c.loop-k.k _ _ (search rules) c.withdrawn-all.ensures in
     let ok = inputs_in_ranges i in

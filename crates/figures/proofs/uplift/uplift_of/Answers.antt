@@ -33,15 +33,15 @@ unfolding heur_of
 rate_is i amount load a l =
     ap (λ z. cond (eqb (whole z) 0) (pos 0) (floor amount (whole z))) l ∙ ap (λ z. cond (eqb (total_load (basis_of i)) 0) (pos 0) (floor z (total_load (basis_of i)))) a
 
-pub overflow-sub-amount : goal.overflow-sub-amount
-overflow-sub-amount c = let p = parts c.args.inputs.now _ _ _ c.total-withdrawn-load.ensures c.total-earned-earned.ensures c.at-paid.ensures in omega (arith, ints)
+pub overflow_sub-amount : goal.overflow_sub-amount
+overflow_sub-amount c = let p = parts c.args.inputs.now _ _ _ c.total-withdrawn-load.ensures c.total-earned-earned.ensures c.at-paid.ensures in omega (arith, ints)
 
 -- three amounts together, as the code holds them
 three : (e p q : ℤ) → Around 122880000000000000 e → Around 960000000000000 p → Around 100000000000000000 q → SFits w128 (to_z w128 (of_z w128 (to_z w128 (of_z w128 e) -ℤ to_z w128 (of_z w128 p))) +ℤ to_z w128 (of_z w128 q))
 three e p q f g h = omega (arith, ints)
 
-pub overflow-add-amount : goal.overflow-add-amount
-overflow-add-amount c =
+pub overflow_add-amount : goal.overflow_add-amount
+overflow_add-amount c =
     let p = parts c.args.inputs.now _ _ _ c.total-withdrawn-load.ensures c.total-earned-earned.ensures c.at-paid.ensures in
     three _ _ _ p.0 p.1 c.args.inputs.now.pending_ok
 

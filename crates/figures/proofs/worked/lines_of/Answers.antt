@@ -14,8 +14,8 @@ loop-k-init c =
     let i = basis_of c.args.inputs.now in
     (refl, sym (sum_none _), sym (ap (borne (heua_of i) (total_load i)) (sum_none (weq_of i)) ∙ borne_none (heua_of i) (total_load i)), λ k h d. absurd (omega arith))
 
-pub overflow-add-upto : goal.overflow-add-upto
-overflow-add-upto c =
+pub overflow_add-upto : goal.overflow_add-upto
+overflow_add-upto c =
     (load_more c.args.inputs.now c.loop-k.k _ _ c.loop-k-test.true c.loop-k.invariant.1 (drawn_at c.args.inputs.now c.loop-k.k _ _ (search rules) c.withdrawn-upto.ensures)).0
 
 pub borne-upto-bears-requires : goal.borne-upto-bears-requires
@@ -23,8 +23,8 @@ borne-upto-bears-requires c =
     let more = load_more c.args.inputs.now c.loop-k.k _ _ c.loop-k-test.true c.loop-k.invariant.1 (drawn_at c.args.inputs.now c.loop-k.k _ _ (search rules) c.withdrawn-upto.ensures) in
     record { uplift = c.requires.uplift; upto = rw more.1 more.2 }
 
-pub overflow-sub-bears : goal.overflow-sub-bears
-overflow-sub-bears c =
+pub overflow_sub-bears : goal.overflow_sub-bears
+overflow_sub-bears c =
     let more = load_more c.args.inputs.now c.loop-k.k _ _ c.loop-k-test.true c.loop-k.invariant.1 (drawn_at c.args.inputs.now c.loop-k.k _ _ (search rules) c.withdrawn-upto.ensures) in
     (share_more c.args.inputs.now c.loop-k.k _ _ c.loop-k-test.true (c.borne-upto-bears.ensures ∙ ap (borne (heua_of (basis_of c.args.inputs.now)) (total_load (basis_of c.args.inputs.now))) more.1) c.loop-k.invariant.2).0
 

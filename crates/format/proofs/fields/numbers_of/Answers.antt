@@ -6,35 +6,35 @@ use Rattle.format.specs.Held.{listed}
 use Rattle.format.proofs.Cuts.{all_read, first_field, no_number, not_one_more, read_on}
 use Rattle.format.proofs.fields.numbers_of.Goals as goal
 
-pub returns-in-err-value : goal.returns-in-err-value
-returns-in-err-value c =
+pub returns-in_err-value : goal.returns-in_err-value
+returns-in_err-value c =
     let found = c.place-of-comma.ensures in
     let fields = first_field c.loop-value.rest.now c.place-of-comma.result found.before found.found in
-    ap (option_map listed) c.from-residual.ensures ∙ sym (no_number (listed c.loop-value.numbers) (fields_of c.loop-value.rest.now) _ fields.0 fields.1 c.in-err-value.ensures) ∙ c.loop-value.invariant.1
+    ap (option_map listed) c.from_residual.ensures ∙ sym (no_number (listed c.loop-value.numbers) (fields_of c.loop-value.rest.now) _ fields.0 fields.1 c.in_err-value.ensures) ∙ c.loop-value.invariant.1
 
-pub returns-in-err-numbers : goal.returns-in-err-numbers
-returns-in-err-numbers c =
+pub returns-in_err-numbers : goal.returns-in_err-numbers
+returns-in_err-numbers c =
     let found = c.place-of-comma.ensures in
     let fields = first_field c.loop-value.rest.now c.place-of-comma.result found.before found.found in
-    let same : to_z w64 (of_z w64 c.in-ok-value.value) ≡ c.in-ok-value.value = search rules in
-    ap (option_map listed) c.from-residual-in-err-numbers.ensures
-    ∙ sym (not_one_more (listed c.loop-value.numbers) (fields_of c.loop-value.rest.now) _ fields.0 c.in-ok-value.value _ same fields.1 c.in-ok-value.ensures c.in-err-numbers.ensures)
+    let same : to_z w64 (of_z w64 c.in_ok-value.value) ≡ c.in_ok-value.value = search rules in
+    ap (option_map listed) c.from_residual-in_err-numbers.ensures
+    ∙ sym (not_one_more (listed c.loop-value.numbers) (fields_of c.loop-value.rest.now) _ fields.0 c.in_ok-value.value _ same fields.1 c.in_ok-value.ensures c.in_err-numbers.ensures)
     ∙ c.loop-value.invariant.1
 
 pub returns-then-comma-rest : goal.returns-then-comma-rest
 returns-then-comma-rest c =
-    let same : to_z w64 (of_z w64 c.in-ok-value.value) ≡ c.in-ok-value.value = search rules in
-    all_read c.loop-value.rest.now c.place-of-comma.result (listed c.loop-value.numbers) c.in-ok-value.value _ _ same c.place-of-comma.ensures.before c.if-comma-rest.true c.in-ok-value.ensures c.in-ok-numbers.ensures
+    let same : to_z w64 (of_z w64 c.in_ok-value.value) ≡ c.in_ok-value.value = search rules in
+    all_read c.loop-value.rest.now c.place-of-comma.result (listed c.loop-value.numbers) c.in_ok-value.value _ _ same c.place-of-comma.ensures.before c.if-comma-rest.true c.in_ok-value.ensures c.in_ok-numbers.ensures
     ∙ c.loop-value.invariant.1
 
-pub overflow-add-rest : goal.overflow-add-rest
-overflow-add-rest c = omega arith
+pub overflow_add-rest : goal.overflow_add-rest
+overflow_add-rest c = omega arith
 
 pub loop-value-preserved : goal.loop-value-preserved
 loop-value-preserved c =
-    let same : to_z w64 (of_z w64 c.in-ok-value.value) ≡ c.in-ok-value.value = search rules in
+    let same : to_z w64 (of_z w64 c.in_ok-value.value) ≡ c.in_ok-value.value = search rules in
     let shorter : length (take (length c.loop-value.rest.now - (c.place-of-comma.result + 1)) (drop (c.place-of-comma.result + 1) c.loop-value.rest.now)) ≤ length c.args.text.now = rw (take_rest c.loop-value.rest.now (c.place-of-comma.result + 1), length-drop (c.place-of-comma.result + 1) c.loop-value.rest.now) (omega arith) in (
       shorter,
-      read_on c.loop-value.rest.now c.place-of-comma.result (listed c.loop-value.numbers) c.in-ok-value.value _ (listed c.in-ok-numbers.numbers) same c.place-of-comma.ensures.before c.if-comma-rest.false (c.place-of-comma.ensures.found c.if-comma-rest.false) c.in-ok-value.ensures c.in-ok-numbers.ensures
+      read_on c.loop-value.rest.now c.place-of-comma.result (listed c.loop-value.numbers) c.in_ok-value.value _ (listed c.in_ok-numbers.numbers) same c.place-of-comma.ensures.before c.if-comma-rest.false (c.place-of-comma.ensures.found c.if-comma-rest.false) c.in_ok-value.ensures c.in_ok-numbers.ensures
           ∙ c.loop-value.invariant.1,
     )

@@ -4,8 +4,8 @@ use Rattle.format.specs.Lines.{of_text}
 use Rattle.format.proofs.Words.{of_fields_says}
 use Rattle.format.proofs.line.said.Goals as goal
 
-pub returns-in-default : goal.returns-in-default
-returns-in-default c =
+pub returns-in_default : goal.returns-in_default
+returns-in_default c =
     let some : 0 < length c.trimmed-text.result.now = omega (arith, ltb-false, leb-false, leb-true, ltb-true, eqb-false) in
     let no-remark : get_or c.trimmed-text.result.now 0 0 ≡ 35 → ⊥ = λ e. omega (arith, e, ltb-false, leb-false, leb-true, ltb-true, eqb-false) in
     c.call-of.ensures ∙ of_fields_says c.trimmed-text.result.now some no-remark ∙ ap of_text c.trimmed-text.ensures

@@ -9,5 +9,5 @@ gather-requires c = λ i. nothing_at 64 i
 
 pub returns : goal.returns
 returns c =
-    by_number contract_key (λ r. r.key.contract) (λ r. refl) bilateral_of contract_in c.args.rows.now c.gather.new.held c.args.worked_half_hour.day c.args.worked_half_hour.interval 64
+    by_number contract_key (λ r. r.key.contract) (λ r. refl) bilateral_of contract_in c.args.rows.now c.gather.new.held c.args.half_hour.day c.args.half_hour.interval 64
     (λ r. r.contract_ok) (search rules) c.gather.ensures

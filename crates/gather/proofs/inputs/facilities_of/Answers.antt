@@ -9,5 +9,5 @@ gather-requires c = λ i. nothing_at 128 i
 
 pub returns : goal.returns
 returns c =
-    by_number facility_key (λ r. r.key.facility) (λ r. refl) injection_of base_injection c.args.rows.now c.gather.new.held c.args.worked_half_hour.day c.args.worked_half_hour.interval 128
+    by_number facility_key (λ r. r.key.facility) (λ r. refl) injection_of base_injection c.args.rows.now c.gather.new.held c.args.half_hour.day c.args.half_hour.interval 128
     (λ r. r.facility_ok) (search rules) c.gather.ensures

@@ -10,5 +10,5 @@ gather-requires c = λ i. nothing_at accounts i
 
 pub returns : goal.returns
 returns c =
-    by_number load_key (λ r. r.key.account) (λ r. refl) withdrawal_moved second_withdrawal c.args.rows.now c.gather.new.held c.args.worked_half_hour.day c.args.worked_half_hour.interval accounts
+    by_number load_key (λ r. r.key.account) (λ r. refl) withdrawal_moved second_withdrawal c.args.rows.now c.gather.new.held c.args.half_hour.day c.args.half_hour.interval accounts
     (λ r. r.account_ok) (search rules) c.gather.ensures

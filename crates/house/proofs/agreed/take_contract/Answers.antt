@@ -27,57 +27,57 @@ half_hour_given r call e = ap (λ s. interval_key s.key.day s.key.interval) e
 parties_given : (r : ContractRow) (call : ContractCall) → contract_says r ≡ contract_given call → first_met (check 2 (eqb r.seller r.buyer) ∷ []) ≡ first_met (check 2 (eqb (nat_abs call.seller) (nat_abs call.buyer)) ∷ [])
 parties_given r call e = ap (λ s. first_met (check 2 (eqb s.terms.seller s.terms.buyer) ∷ [])) e
 
-pub returns-in-err-row : goal.returns-in-err-row
-returns-in-err-row c =
+pub returns-in_err-row : goal.returns-in_err-row
+returns-in_err-row c =
     let call = c.args.call.now in
     let o = open_at (interval_rows c.args.intervals.now) (half_hour_key call.day call.interval) in
     record {
       answer =
-          handed_on c.from-residual.result c.in-err-row.field-0.0 c.from-residual.ensures.1
-          ∙ refused-range (not (is_contract call)) (eqb (nat_abs call.seller) (nat_abs call.buyer)) o (ten call (contract_rows c.args.contracts.now)) c.in-err-row.field-0.0 c.in-err-row.ensures.answer;
+          handed_on c.from_residual.result c.in_err-row.field-0.0 c.from_residual.ensures.1
+          ∙ refused-range (not (is_contract call)) (eqb (nat_abs call.seller) (nat_abs call.buyer)) o (ten call (contract_rows c.args.contracts.now)) c.in_err-row.field-0.0 c.in_err-row.ensures.answer;
       contracts = search rules;
     }
 
-pub returns-in-err-check-apart : goal.returns-in-err-check-apart
-returns-in-err-check-apart c =
+pub returns-in_err-check-apart : goal.returns-in_err-check-apart
+returns-in_err-check-apart c =
     let call = c.args.call.now in
     let o = open_at (interval_rows c.args.intervals.now) (half_hour_key call.day call.interval) in
     record {
       answer =
-          handed_on c.from-residual-in-err-check-apart.result c.in-err-check-apart.field-0.0 c.from-residual-in-err-check-apart.ensures.1
-          ∙ refused-party (not (is_contract call)) (eqb (nat_abs call.seller) (nat_abs call.buyer)) o (ten call (contract_rows c.args.contracts.now)) c.in-err-check-apart.field-0.0 c.in-ok-row.ensures.answer
-          (c.in-err-check-apart.ensures ∙ parties_given c.in-ok-row.row call c.in-ok-row.ensures.row);
+          handed_on c.from_residual-in_err-check-apart.result c.in_err-check-apart.field-0.0 c.from_residual-in_err-check-apart.ensures.1
+          ∙ refused-party (not (is_contract call)) (eqb (nat_abs call.seller) (nat_abs call.buyer)) o (ten call (contract_rows c.args.contracts.now)) c.in_err-check-apart.field-0.0 c.in_ok-row.ensures.answer
+          (c.in_err-check-apart.ensures ∙ parties_given c.in_ok-row.row call c.in_ok-row.ensures.row);
       contracts = search rules;
     }
 
-pub returns-in-err-check-reading : goal.returns-in-err-check-reading
-returns-in-err-check-reading c =
+pub returns-in_err-check-reading : goal.returns-in_err-check-reading
+returns-in_err-check-reading c =
     let call = c.args.call.now in
     let is = interval_rows c.args.intervals.now in
-    let given = c.in-ok-row.ensures.row in
+    let given = c.in_ok-row.ensures.row in
     record {
       answer =
-          handed_on c.from-residual-in-err-check-reading.result c.in-err-check-reading.field-0.0 c.from-residual-in-err-check-reading.ensures.1
-          ∙ refused-phase (not (is_contract call)) (eqb (nat_abs call.seller) (nat_abs call.buyer)) (open_at is (half_hour_key call.day call.interval)) (ten call (contract_rows c.args.contracts.now)) c.in-err-check-reading.field-0.0 c.in-ok-row.ensures.answer
-          (c.in-ok-check-apart.ensures ∙ parties_given c.in-ok-row.row call given)
-          (c.in-err-check-reading.ensures ∙ ap (λ k. first_met (if_open (open_at is k) reading_phase)) (half_hour_given c.in-ok-row.row call given));
+          handed_on c.from_residual-in_err-check-reading.result c.in_err-check-reading.field-0.0 c.from_residual-in_err-check-reading.ensures.1
+          ∙ refused-phase (not (is_contract call)) (eqb (nat_abs call.seller) (nat_abs call.buyer)) (open_at is (half_hour_key call.day call.interval)) (ten call (contract_rows c.args.contracts.now)) c.in_err-check-reading.field-0.0 c.in_ok-row.ensures.answer
+          (c.in_ok-check-apart.ensures ∙ parties_given c.in_ok-row.row call given)
+          (c.in_err-check-reading.ensures ∙ ap (λ k. first_met (if_open (open_at is k) reading_phase)) (half_hour_given c.in_ok-row.row call given));
       contracts = search rules;
     }
 
-pub returns-in-err-put-row : goal.returns-in-err-put-row
-returns-in-err-put-row c =
+pub returns-in_err-put-row : goal.returns-in_err-put-row
+returns-in_err-put-row c =
     let call = c.args.call.now in
     let is = interval_rows c.args.intervals.now in
     let rows = c.args.contracts.now in
-    let r = c.in-ok-row.row in
-    let given = c.in-ok-row.ensures.row in
+    let r = c.in_ok-row.row in
+    let given = c.in_ok-row.ensures.row in
     record {
       answer =
-          handed_on c.from-residual-in-err-put-row.result c.in-err-put-row.field-0.0 c.from-residual-in-err-put-row.ensures.1
-          ∙ past-phase (not (is_contract call)) (eqb (nat_abs call.seller) (nat_abs call.buyer)) (open_at is (half_hour_key call.day call.interval)) (ten call (contract_rows rows)) _ c.in-ok-row.ensures.answer
-          (c.in-ok-check-apart.ensures ∙ parties_given r call given)
-          (c.in-ok-check-reading.ensures ∙ ap (λ k. first_met (if_open (open_at is k) reading_phase)) (half_hour_given r call given))
-          (c.in-err-put-row.ensures.answer ∙ place_check carried contract_named contract_says (λ x. refl) rows (carried r) (contract_given call).key (ap (λ s. s.key) given));
+          handed_on c.from_residual-in_err-put-row.result c.in_err-put-row.field-0.0 c.from_residual-in_err-put-row.ensures.1
+          ∙ past-phase (not (is_contract call)) (eqb (nat_abs call.seller) (nat_abs call.buyer)) (open_at is (half_hour_key call.day call.interval)) (ten call (contract_rows rows)) _ c.in_ok-row.ensures.answer
+          (c.in_ok-check-apart.ensures ∙ parties_given r call given)
+          (c.in_ok-check-reading.ensures ∙ ap (λ k. first_met (if_open (open_at is k) reading_phase)) (half_hour_given r call given))
+          (c.in_err-put-row.ensures.answer ∙ place_check carried contract_named contract_says (λ x. refl) rows (carried r) (contract_given call).key (ap (λ s. s.key) given));
       contracts = search rules;
     }
 
@@ -86,13 +86,13 @@ returns c =
     let call = c.args.call.now in
     let is = interval_rows c.args.intervals.now in
     let rows = c.args.contracts.now in
-    let r = c.in-ok-row.row in
-    let given = c.in-ok-row.ensures.row in
+    let r = c.in_ok-row.row in
+    let given = c.in_ok-row.ensures.row in
     record {
       answer =
-          past-phase (not (is_contract call)) (eqb (nat_abs call.seller) (nat_abs call.buyer)) (open_at is (half_hour_key call.day call.interval)) (ten call (contract_rows rows)) _ c.in-ok-row.ensures.answer
-          (c.in-ok-check-apart.ensures ∙ parties_given r call given)
-          (c.in-ok-check-reading.ensures ∙ ap (λ k. first_met (if_open (open_at is k) reading_phase)) (half_hour_given r call given))
-          (c.in-ok-put-row.ensures.answer ∙ place_check carried contract_named contract_says (λ x. refl) rows (carried r) (contract_given call).key (ap (λ s. s.key) given));
-      contracts = ap contract_rows c.in-ok-put-row.ensures.rows ∙ placed-mapped carried contract_named contract_says (λ x. refl) rows r ∙ ap (placed contract_named (contract_rows rows)) given;
+          past-phase (not (is_contract call)) (eqb (nat_abs call.seller) (nat_abs call.buyer)) (open_at is (half_hour_key call.day call.interval)) (ten call (contract_rows rows)) _ c.in_ok-row.ensures.answer
+          (c.in_ok-check-apart.ensures ∙ parties_given r call given)
+          (c.in_ok-check-reading.ensures ∙ ap (λ k. first_met (if_open (open_at is k) reading_phase)) (half_hour_given r call given))
+          (c.in_ok-put-row.ensures.answer ∙ place_check carried contract_named contract_says (λ x. refl) rows (carried r) (contract_given call).key (ap (λ s. s.key) given));
+      contracts = ap contract_rows c.in_ok-put-row.ensures.rows ∙ placed-mapped carried contract_named contract_says (λ x. refl) rows r ∙ ap (placed contract_named (contract_rows rows)) given;
     }

@@ -16,8 +16,8 @@ use Rattle.house.proofs.facilities.facility_at.Goals as goal
 abbrev carried : FacilityReading → Numbers
 carried r = (facility_says r).key
 
-pub returns-in-err-row : goal.returns-in-err-row
-returns-in-err-row c =
+pub returns-in_err-row : goal.returns-in_err-row
+returns-in_err-row c =
     let rows = c.args.facilities.now in
     let new = facility_says c.args.reading.now in
     let sort = c.args.sort in
@@ -26,8 +26,8 @@ returns-in-err-row c =
     let ten = check 10 (not (is_some (place facility_named (facility_rows rows) new.key))) in
     record {
       answer =
-          handed_on c.from-residual.result c.in-err-row.field-0.0 c.from-residual.ensures.1
-          ∙ stops c.in-err-row.field-0.0 (check 9 (corrects (Some sort) && not (may_correct new (option_map facility_says c.seek-sought.result.row))) ∷ []) (ten ∷ []) c.in-err-row.ensures.answer
+          handed_on c.from_residual.result c.in_err-row.field-0.0 c.from_residual.ensures.1
+          ∙ stops c.in_err-row.field-0.0 (check 9 (corrects (Some sort) && not (may_correct new (option_map facility_says c.seek-sought.result.row))) ∷ []) (ten ∷ []) c.in_err-row.ensures.answer
           ∙ ap (λ o. first_met (check 9 (corrects (Some sort) && not (may_correct new o)) ∷ ten ∷ [])) same;
       row = search rules;
     }
@@ -43,16 +43,16 @@ returns-in-Some c =
     let at : place carried rows new.key ≡ Some c.in-Some.index = sym c.seek-sought.ensures.place ∙ c.in-Some.is in
     let there : place facility_named (facility_rows rows) new.key ≡ Some c.in-Some.index = place-mapped carried facility_named facility_says (λ r. refl) rows new.key ∙ at in
     let ten = check 10 (not (is_some (place facility_named (facility_rows rows) new.key))) in
-    let left = c.in-ok-row.ensures.row in
+    let left = c.in_ok-row.ensures.row in
     record {
       answer =
           ap (λ o. first_met (check 10 (not (is_some o)) ∷ [])) (sym there)
-          ∙ passes (check 9 (corrects (Some sort) && not (may_correct new old)) ∷ []) (ten ∷ []) (lit< tt, tt) c.in-ok-row.ensures.answer
+          ∙ passes (check 9 (corrects (Some sort) && not (may_correct new old)) ∷ []) (ten ∷ []) (lit< tt, tt) c.in_ok-row.ensures.answer
           ∙ ap (λ o. first_met (check 9 (corrects (Some sort) && not (may_correct new o)) ∷ ten ∷ [])) same;
       row =
-          written carried facility_named facility_says (λ r. refl) rows new.key c.in-Some.index c.in-ok-row.row (facility_left new (Some sort) (lookup facility_named (facility_rows rows) new.key)) at
+          written carried facility_named facility_says (λ r. refl) rows new.key c.in-Some.index c.in_ok-row.row (facility_left new (Some sort) (lookup facility_named (facility_rows rows) new.key)) at
           (ap (facility_left new (Some sort)) (sym same) ∙ left)
-          (facility_left_key new (facility_says c.in-ok-row.row) sort old (λ o e. lookup-carries facility_named (facility_rows rows) new.key o (sym same ∙ e)) left);
+          (facility_left_key new (facility_says c.in_ok-row.row) sort old (λ o e. lookup-carries facility_named (facility_rows rows) new.key o (sym same ∙ e)) left);
     }
 
 pub returns-in-None : goal.returns-in-None
@@ -69,7 +69,7 @@ returns-in-None c =
     record {
       answer =
           ap (λ o. first_met (check 10 (not (is_some o)) ∷ [])) (sym nowhere)
-          ∙ passes (check 9 (corrects (Some sort) && not (may_correct new old)) ∷ []) (ten ∷ []) (lit< tt, tt) c.in-ok-row.ensures.answer
+          ∙ passes (check 9 (corrects (Some sort) && not (may_correct new old)) ∷ []) (ten ∷ []) (lit< tt, tt) c.in_ok-row.ensures.answer
           ∙ ap (λ o. first_met (check 9 (corrects (Some sort) && not (may_correct new o)) ∷ ten ∷ [])) same;
       row = tt;
     }

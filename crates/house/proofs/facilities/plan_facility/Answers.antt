@@ -17,83 +17,83 @@ use Rattle.house.proofs.facilities.plan_facility.Goals as goal
 abbrev rest : FacilityCall → List (Option FacilitySaid) → IntervalSaid → List Check
 rest call fs i = stamp_checks call.days call.minute i (facility_row_checks (facility_given call) (sort_at call.days call.minute i) fs)
 
-pub returns-in-err-taken : goal.returns-in-err-taken
-returns-in-err-taken c =
+pub returns-in_err-taken : goal.returns-in_err-taken
+returns-in_err-taken c =
     let call = c.args.call.now in
     let is = interval_rows c.args.intervals.now in
     let fs = facility_rows c.args.facilities.now in
     record {
       answer =
-          handed_on c.from-residual.result c.in-err-taken.field-0.0 c.from-residual.ensures.1
-          ∙ stops c.in-err-taken.field-0.0 (check 1 (not (is_facility call)) ∷ []) (if_open (open_at is (half_hour_key call.day call.interval)) (rest call fs)) c.in-err-taken.ensures.answer;
+          handed_on c.from_residual.result c.in_err-taken.field-0.0 c.from_residual.ensures.1
+          ∙ stops c.in_err-taken.field-0.0 (check 1 (not (is_facility call)) ∷ []) (if_open (open_at is (half_hour_key call.day call.interval)) (rest call fs)) c.in_err-taken.ensures.answer;
       intervals = search rules;
       facilities = search rules;
     }
 
-pub returns-in-err-opened : goal.returns-in-err-opened
-returns-in-err-opened c =
+pub returns-in_err-opened : goal.returns-in_err-opened
+returns-in_err-opened c =
     let call = c.args.call.now in
     let is = interval_rows c.args.intervals.now in
     let fs = facility_rows c.args.facilities.now in
-    let key : interval_key c.in-ok-taken.taken.row.key.half_hour.day c.in-ok-taken.taken.row.key.half_hour.interval ≡ half_hour_key call.day call.interval =
-    ap (λ r. interval_key r.key.day r.key.interval) c.in-ok-taken.ensures.row in
+    let key : interval_key c.in_ok-taken.taken.row.key.half_hour.day c.in_ok-taken.taken.row.key.half_hour.interval ≡ half_hour_key call.day call.interval =
+    ap (λ r. interval_key r.key.day r.key.interval) c.in_ok-taken.ensures.row in
     record {
       answer =
-          handed_on c.from-residual-in-err-opened.result c.in-err-opened.field-0.0 c.from-residual-in-err-opened.ensures.1
-          ∙ not_open c.in-err-opened.field-0.0 (not (is_facility call)) (open_at is (half_hour_key call.day call.interval))
+          handed_on c.from_residual-in_err-opened.result c.in_err-opened.field-0.0 c.from_residual-in_err-opened.ensures.1
+          ∙ not_open c.in_err-opened.field-0.0 (not (is_facility call)) (open_at is (half_hour_key call.day call.interval))
           (rest call fs)
-          c.in-ok-taken.ensures.answer
-          (c.in-err-opened.ensures.answer ∙ ap (λ k. first_met (if_open (open_at is k) (λ _. []))) key);
+          c.in_ok-taken.ensures.answer
+          (c.in_err-opened.ensures.answer ∙ ap (λ k. first_met (if_open (open_at is k) (λ _. []))) key);
       intervals = search rules;
       facilities = search rules;
     }
 
-pub returns-in-err-sort : goal.returns-in-err-sort
-returns-in-err-sort c =
+pub returns-in_err-sort : goal.returns-in_err-sort
+returns-in_err-sort c =
     let call = c.args.call.now in
     let is = interval_rows c.args.intervals.now in
     let fs = facility_rows c.args.facilities.now in
-    let key : interval_key c.in-ok-taken.taken.row.key.half_hour.day c.in-ok-taken.taken.row.key.half_hour.interval ≡ half_hour_key call.day call.interval =
-    ap (λ r. interval_key r.key.day r.key.interval) c.in-ok-taken.ensures.row in
-    let i = interval_says c.in-ok-opened.opened.row in
-    let found : open_at is (half_hour_key call.day call.interval) ≡ Some i = ap (open_at is) (sym key) ∙ c.in-ok-opened.ensures.found in
+    let key : interval_key c.in_ok-taken.taken.row.key.half_hour.day c.in_ok-taken.taken.row.key.half_hour.interval ≡ half_hour_key call.day call.interval =
+    ap (λ r. interval_key r.key.day r.key.interval) c.in_ok-taken.ensures.row in
+    let i = interval_says c.in_ok-opened.opened.row in
+    let found : open_at is (half_hour_key call.day call.interval) ≡ Some i = ap (open_at is) (sym key) ∙ c.in_ok-opened.ensures.found in
     let more = facility_row_checks (facility_given call) (sort_at call.days call.minute i) fs in
-    let stamp = c.in-ok-taken.ensures.stamp in
+    let stamp = c.in_ok-taken.ensures.stamp in
     record {
       answer =
-          handed_on c.from-residual-in-err-sort.result c.in-err-sort.field-0.0 c.from-residual-in-err-sort.ensures.1
-          ∙ stamp_refuses c.in-err-sort.field-0.0 call.days call.minute i more
-          (c.in-err-sort.ensures.answer ∙ at_stamp call.days call.minute c.in-ok-taken.taken.stamp stamp.0 stamp.1 i)
+          handed_on c.from_residual-in_err-sort.result c.in_err-sort.field-0.0 c.from_residual-in_err-sort.ensures.1
+          ∙ stamp_refuses c.in_err-sort.field-0.0 call.days call.minute i more
+          (c.in_err-sort.ensures.answer ∙ at_stamp call.days call.minute c.in_ok-taken.taken.stamp stamp.0 stamp.1 i)
           ∙ past_open (not (is_facility call)) (open_at is (half_hour_key call.day call.interval)) i
           (rest call fs)
-          c.in-ok-taken.ensures.answer found;
+          c.in_ok-taken.ensures.answer found;
       intervals = search rules;
       facilities = search rules;
     }
 
-pub returns-in-err-facility : goal.returns-in-err-facility
-returns-in-err-facility c =
+pub returns-in_err-facility : goal.returns-in_err-facility
+returns-in_err-facility c =
     let call = c.args.call.now in
     let is = interval_rows c.args.intervals.now in
     let fs = facility_rows c.args.facilities.now in
-    let key : interval_key c.in-ok-taken.taken.row.key.half_hour.day c.in-ok-taken.taken.row.key.half_hour.interval ≡ half_hour_key call.day call.interval =
-    ap (λ r. interval_key r.key.day r.key.interval) c.in-ok-taken.ensures.row in
-    let i = interval_says c.in-ok-opened.opened.row in
-    let found : open_at is (half_hour_key call.day call.interval) ≡ Some i = ap (open_at is) (sym key) ∙ c.in-ok-opened.ensures.found in
+    let key : interval_key c.in_ok-taken.taken.row.key.half_hour.day c.in_ok-taken.taken.row.key.half_hour.interval ≡ half_hour_key call.day call.interval =
+    ap (λ r. interval_key r.key.day r.key.interval) c.in_ok-taken.ensures.row in
+    let i = interval_says c.in_ok-opened.opened.row in
+    let found : open_at is (half_hour_key call.day call.interval) ≡ Some i = ap (open_at is) (sym key) ∙ c.in_ok-opened.ensures.found in
     let more = facility_row_checks (facility_given call) (sort_at call.days call.minute i) fs in
-    let stamp = c.in-ok-taken.ensures.stamp in
-    let s = c.in-ok-taken.taken.stamp in
-    let sort : sort_at call.days call.minute i ≡ Some c.in-ok-sort.sort = sort-is call.days call.minute s stamp.0 stamp.1 i c.in-ok-sort.sort c.in-ok-sort.ensures.sort in
+    let stamp = c.in_ok-taken.ensures.stamp in
+    let s = c.in_ok-taken.taken.stamp in
+    let sort : sort_at call.days call.minute i ≡ Some c.in_ok-sort.sort = sort-is call.days call.minute s stamp.0 stamp.1 i c.in_ok-sort.sort c.in_ok-sort.ensures.sort in
     record {
       answer =
-          handed_on c.from-residual-in-err-facility.result c.in-err-facility.field-0.0 c.from-residual-in-err-facility.ensures.1
-          ∙ c.in-err-facility.ensures.answer
-          ∙ ap (λ n. first_met (facility_row_checks n (Some c.in-ok-sort.sort) fs)) c.in-ok-taken.ensures.row
+          handed_on c.from_residual-in_err-facility.result c.in_err-facility.field-0.0 c.from_residual-in_err-facility.ensures.1
+          ∙ c.in_err-facility.ensures.answer
+          ∙ ap (λ n. first_met (facility_row_checks n (Some c.in_ok-sort.sort) fs)) c.in_ok-taken.ensures.row
           ∙ ap (λ o. first_met (facility_row_checks (facility_given call) o fs)) (sym sort)
-          ∙ past_stamp call.days call.minute i more (c.in-ok-sort.ensures.answer ∙ at_stamp call.days call.minute s stamp.0 stamp.1 i)
+          ∙ past_stamp call.days call.minute i more (c.in_ok-sort.ensures.answer ∙ at_stamp call.days call.minute s stamp.0 stamp.1 i)
           ∙ past_open (not (is_facility call)) (open_at is (half_hour_key call.day call.interval)) i
           (rest call fs)
-          c.in-ok-taken.ensures.answer found;
+          c.in_ok-taken.ensures.answer found;
       intervals = search rules;
       facilities = search rules;
     }
@@ -103,33 +103,33 @@ returns c =
     let call = c.args.call.now in
     let is = interval_rows c.args.intervals.now in
     let fs = facility_rows c.args.facilities.now in
-    let key : interval_key c.in-ok-taken.taken.row.key.half_hour.day c.in-ok-taken.taken.row.key.half_hour.interval ≡ half_hour_key call.day call.interval =
-    ap (λ r. interval_key r.key.day r.key.interval) c.in-ok-taken.ensures.row in
-    let opened = c.in-ok-opened.opened.row in
+    let key : interval_key c.in_ok-taken.taken.row.key.half_hour.day c.in_ok-taken.taken.row.key.half_hour.interval ≡ half_hour_key call.day call.interval =
+    ap (λ r. interval_key r.key.day r.key.interval) c.in_ok-taken.ensures.row in
+    let opened = c.in_ok-opened.opened.row in
     let i = interval_says opened in
-    let found : open_at is (half_hour_key call.day call.interval) ≡ Some i = ap (open_at is) (sym key) ∙ c.in-ok-opened.ensures.found in
+    let found : open_at is (half_hour_key call.day call.interval) ≡ Some i = ap (open_at is) (sym key) ∙ c.in_ok-opened.ensures.found in
     let more = facility_row_checks (facility_given call) (sort_at call.days call.minute i) fs in
-    let stamp = c.in-ok-taken.ensures.stamp in
-    let s = c.in-ok-taken.taken.stamp in
-    let sort : sort_at call.days call.minute i ≡ Some c.in-ok-sort.sort = sort-is call.days call.minute s stamp.0 stamp.1 i c.in-ok-sort.sort c.in-ok-sort.ensures.sort in
-    let given = c.in-ok-taken.ensures.row in
+    let stamp = c.in_ok-taken.ensures.stamp in
+    let s = c.in_ok-taken.taken.stamp in
+    let sort : sort_at call.days call.minute i ≡ Some c.in_ok-sort.sort = sort-is call.days call.minute s stamp.0 stamp.1 i c.in_ok-sort.sort c.in_ok-sort.ensures.sort in
+    let given = c.in_ok-taken.ensures.row in
     let kept = c.moved-row.ensures.kept in
     let moved = c.moved-row.result in
     record {
       answer =
-          c.in-ok-facility.ensures.answer
-          ∙ ap (λ n. first_met (facility_row_checks n (Some c.in-ok-sort.sort) fs)) given
+          c.in_ok-facility.ensures.answer
+          ∙ ap (λ n. first_met (facility_row_checks n (Some c.in_ok-sort.sort) fs)) given
           ∙ ap (λ o. first_met (facility_row_checks (facility_given call) o fs)) (sym sort)
-          ∙ past_stamp call.days call.minute i more (c.in-ok-sort.ensures.answer ∙ at_stamp call.days call.minute s stamp.0 stamp.1 i)
+          ∙ past_stamp call.days call.minute i more (c.in_ok-sort.ensures.answer ∙ at_stamp call.days call.minute s stamp.0 stamp.1 i)
           ∙ past_open (not (is_facility call)) (open_at is (half_hour_key call.day call.interval)) i
           (rest call fs)
-          c.in-ok-taken.ensures.answer found;
+          c.in_ok-taken.ensures.answer found;
       intervals =
-          c.in-ok-opened.ensures.writes moved (ap (λ h. interval_key h.day h.interval) kept.0 ∙ lookup-carries interval_named is _ i c.in-ok-opened.ensures.found)
+          c.in_ok-opened.ensures.writes moved (ap (λ h. interval_key h.day h.interval) kept.0 ∙ lookup-carries interval_named is _ i c.in_ok-opened.ensures.found)
           ∙ ap (λ j. put_row interval_named is (Some j)) (moved-is call.days call.minute s stamp.0 stamp.1 opened moved opened.phase kept.0 kept.1 kept.2 kept.3 c.moved-row.ensures.phase c.moved-row.ensures.last)
           ∙ ap (λ o. put_row interval_named is (option_map (stamped call.days call.minute) o)) (sym found);
       facilities =
-          c.in-ok-facility.ensures.row
-          ∙ ap (λ n. put_row facility_named fs (facility_left n (Some c.in-ok-sort.sort) (lookup facility_named fs n.key))) given
+          c.in_ok-facility.ensures.row
+          ∙ ap (λ n. put_row facility_named fs (facility_left n (Some c.in_ok-sort.sort) (lookup facility_named fs n.key))) given
           ∙ ap (λ o. put_row facility_named fs (facility_left (facility_given call) o (lookup facility_named fs (facility_given call).key))) (sym (ap (sort_of call.days call.minute) found ∙ sort));
     }

@@ -37,13 +37,13 @@ each_participant [] k h l = absurd (omega arith)
 each_participant (z ∷ zs) zero h l = account_given z (and_parts (inside account_range z) (all_participants zs) h).0
 each_participant (z ∷ zs) (suc k) h l = each_participant zs k (and_parts (inside account_range z) (all_participants zs) h).1 (omega arith)
 
-pub returns-in-err-participants : goal.returns-in-err-participants
-returns-in-err-participants c =
+pub returns-in_err-participants : goal.returns-in_err-participants
+returns-in_err-participants c =
     let given = c.args.given.now in
     let k = c.loop-k.k in
     let bad : inside account_range (get_or given k (pos 0)) ≡ false = search rules in
     record {
-      answer = handed_on c.from-residual.result c.in-err-participants.field-0.0 c.from-residual.ensures.1 ∙ ap refusal_number c.in-err-participants.ensures.made ∙ outside (all_participants given) (no_participant given k (omega arith) bad);
+      answer = handed_on c.from_residual.result c.in_err-participants.field-0.0 c.from_residual.ensures.1 ∙ ap refusal_number c.in_err-participants.ensures.made ∙ outside (all_participants given) (no_participant given k (omega arith) bad);
       participants = search rules;
       within = search rules;
     }
@@ -56,10 +56,10 @@ loop-k-preserved c =
     let lt : k < length given = omega arith in
     let room : k < length before = omega (arith, c.loop-k.invariant.0) in
     let good : inside account_range (get_or given k (pos 0)) ≡ true = search rules in
-    let value : nat_abs (to_z w64 (of_z w64 c.in-ok-participants.field-0)) ≡ nat_abs (get_or given k (pos 0)) = search rules in (
+    let value : nat_abs (to_z w64 (of_z w64 c.in_ok-participants.field-0)) ≡ nat_abs (get_or given k (pos 0)) = search rules in (
       length-set before k _ ∙ c.loop-k.invariant.0,
       ap all_participants (take_more given k (pos 0) lt) ∙ more_participants (take k given) (get_or given k (pos 0)) c.loop-k.invariant.1 good,
-      take_more_set before k _ room ∙ ap (λ xs. xs ++ nat_abs (to_z w64 (of_z w64 c.in-ok-participants.field-0)) ∷ []) c.loop-k.invariant.2 ∙ ap (λ v. map nat_abs (take k given) ++ v ∷ []) value
+      take_more_set before k _ room ∙ ap (λ xs. xs ++ nat_abs (to_z w64 (of_z w64 c.in_ok-participants.field-0)) ∷ []) c.loop-k.invariant.2 ∙ ap (λ v. map nat_abs (take k given) ++ v ∷ []) value
           ∙ sym (ap (map nat_abs) (take_more given k (pos 0) lt) ∙ map-append nat_abs (take k given) (get_or given k (pos 0) ∷ [])),
     )
 

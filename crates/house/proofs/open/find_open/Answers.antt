@@ -22,7 +22,7 @@ none_answers rows k e = ap (λ o. first_met (if_open o (λ _. []))) (sym (open_i
 pub returns-in-Some-place : goal.returns-in-Some-place
 returns-in-Some-place c =
     let rows = c.args.intervals.now in
-    let h = c.args.worked_half_hour in
+    let h = c.args.half_hour in
     let found = open_is rows (interval_key h.day h.interval) (Some c.in-Some.row) (sym c.in-Some.is ∙ c.seek-sought.ensures.row) in
     record {
       answer = ap (λ o. first_met (if_open o (λ _. []))) (sym found);
@@ -33,11 +33,11 @@ returns-in-Some-place c =
 pub returns-in-None-place : goal.returns-in-None-place
 returns-in-None-place c =
     let rows = c.args.intervals.now in
-    let h = c.args.worked_half_hour in
+    let h = c.args.half_hour in
     let k = interval_key h.day h.interval in
     record { answer = none_answers rows k (sym (lookup-no-place carried rows k (sym c.seek-sought.ensures.place ∙ c.in-None-place.is))); found = tt; writes = tt }
 
 pub returns-in-None : goal.returns-in-None
 returns-in-None c =
-    let h = c.args.worked_half_hour in
+    let h = c.args.half_hour in
     record { answer = none_answers c.args.intervals.now (interval_key h.day h.interval) (sym c.in-None.is ∙ c.seek-sought.ensures.row); found = tt; writes = tt }

@@ -6,13 +6,13 @@ use Rattle.house.proofs.Answering.{handed_on, outside, within, second_fails, two
 use Rattle.house.proofs.Given.{contract-is}
 use Rattle.house.proofs.taken.taken_contract.Goals as goal
 
-pub returns-in-err-row : goal.returns-in-err-row
-returns-in-err-row c =
+pub returns-in_err-row : goal.returns-in_err-row
+returns-in_err-row c =
     let call = c.args.call.now in
     let h : true ≡ is_half_hour call.day call.interval = search rules in
     let f : false ≡ (inside contract_range call.contract && inside account_range call.seller && inside account_range call.buyer && inside quantity_range call.baq && inside fraction_range call.bwf && inside fraction_range call.bif) = search rules in
     record {
-      answer = handed_on c.from-residual-in-err-row.result c.in-err-row.field-0.0 c.from-residual-in-err-row.ensures.1 ∙ ap refusal_number c.in-err-row.ensures.made ∙ outside (is_contract call) (second_fails _ _ h f);
+      answer = handed_on c.from_residual-in_err-row.result c.in_err-row.field-0.0 c.from_residual-in_err-row.ensures.1 ∙ ap refusal_number c.in_err-row.ensures.made ∙ outside (is_contract call) (second_fails _ _ h f);
       row = search rules;
     }
 
@@ -21,10 +21,10 @@ returns c =
     let call = c.args.call.now in
     let h : true ≡ is_half_hour call.day call.interval = search rules in
     let f : true ≡ (inside contract_range call.contract && inside account_range call.seller && inside account_range call.buyer && inside quantity_range call.baq && inside fraction_range call.bwf && inside fraction_range call.bif) = search rules in
-    let worked_half_hour = c.in-ok-half-hour.worked_half_hour in
-    let r = c.in-ok-row.row in
-    let d : pos worked_half_hour.day ≡ call.day = search rules in
-    let t : pos worked_half_hour.interval ≡ call.interval = search rules in
+    let half_hour = c.in_ok-half-hour.half_hour in
+    let r = c.in_ok-row.row in
+    let d : pos half_hour.day ≡ call.day = search rules in
+    let t : pos half_hour.interval ≡ call.interval = search rules in
     let n : pos r.key.contract ≡ call.contract = search rules in
     let s : pos r.seller ≡ call.seller = search rules in
     let b : pos r.buyer ≡ call.buyer = search rules in
@@ -33,5 +33,5 @@ returns c =
     let i : pos r.bif ≡ call.bif = search rules in
     record {
       answer = within (is_contract call) (two_pass _ _ h f);
-      row = contract-is worked_half_hour call.day call.interval d t r call refl refl c.in-ok-row.ensures.made.0 n s b q w i;
+      row = contract-is half_hour call.day call.interval d t r call refl refl c.in_ok-row.ensures.made.0 n s b q w i;
     }

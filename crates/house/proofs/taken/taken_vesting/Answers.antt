@@ -6,13 +6,13 @@ use Rattle.house.proofs.Answering.{handed_on, outside, within, second_fails, two
 use Rattle.house.proofs.Given.{vesting-is}
 use Rattle.house.proofs.taken.taken_vesting.Goals as goal
 
-pub returns-in-err-row : goal.returns-in-err-row
-returns-in-err-row c =
+pub returns-in_err-row : goal.returns-in_err-row
+returns-in_err-row c =
     let call = c.args.call.now in
     let h : true ≡ is_half_hour call.day call.interval = search rules in
     let f : false ≡ (inside account_range call.account && inside tranche_range call.tranche && inside price_range call.price && inside quantity_range call.quantity) = search rules in
     record {
-      answer = handed_on c.from-residual-in-err-row.result c.in-err-row.field-0.0 c.from-residual-in-err-row.ensures.1 ∙ ap refusal_number c.in-err-row.ensures.made ∙ outside (is_vesting call) (second_fails _ _ h f);
+      answer = handed_on c.from_residual-in_err-row.result c.in_err-row.field-0.0 c.from_residual-in_err-row.ensures.1 ∙ ap refusal_number c.in_err-row.ensures.made ∙ outside (is_vesting call) (second_fails _ _ h f);
       row = search rules;
     }
 
@@ -21,15 +21,15 @@ returns c =
     let call = c.args.call.now in
     let h : true ≡ is_half_hour call.day call.interval = search rules in
     let f : true ≡ (inside account_range call.account && inside tranche_range call.tranche && inside price_range call.price && inside quantity_range call.quantity) = search rules in
-    let worked_half_hour = c.in-ok-half-hour.worked_half_hour in
-    let r = c.in-ok-row.row in
-    let d : pos worked_half_hour.day ≡ call.day = search rules in
-    let t : pos worked_half_hour.interval ≡ call.interval = search rules in
+    let half_hour = c.in_ok-half-hour.half_hour in
+    let r = c.in_ok-row.row in
+    let d : pos half_hour.day ≡ call.day = search rules in
+    let t : pos half_hour.interval ≡ call.interval = search rules in
     let a : pos r.key.account ≡ call.account = search rules in
     let n : pos r.key.tranche ≡ call.tranche = search rules in
     let p : r.price.0 ≡ call.price = search rules in
     let q : r.quantity.0 ≡ call.quantity = search rules in
     record {
       answer = within (is_vesting call) (two_pass _ _ h f);
-      row = vesting-is worked_half_hour call.day call.interval d t r call refl refl c.in-ok-row.ensures.made.0 a n p q;
+      row = vesting-is half_hour call.day call.interval d t r call refl refl c.in_ok-row.ensures.made.0 a n p q;
     }

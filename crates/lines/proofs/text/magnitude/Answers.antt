@@ -24,5 +24,5 @@ loop-b-preserved c =
 
 pub returns : goal.returns
 returns c =
-    let some : 0 < length c.args.digits.now = omega (arith, false-eqb _ 0 c.if-is-empty.ensures) in
+    let some : 0 < length c.args.digits.now = omega (arith, false-eqb _ 0 c.if-is_empty.ensures) in
     all_read c.args.digits.now _ _ c.loop-b-test.false some c.loop-b.invariant.0 c.loop-b.invariant.1

@@ -9,13 +9,13 @@ use Rattle.lines.proofs.text.number.Goals as goal
 negated : (n : ℕ) → n ≤ far → to_z w64 (of_z w64 (pos 0 -ℤ to_z w64 n)) ≡ neg_ℤ (pos n)
 negated n h = omega (arith, ints)
 
-pub returns-in-err-size : goal.returns-in-err-size
-returns-in-err-size c =
+pub returns-in_err-size-in-45 : goal.returns-in_err-size-in-45
+returns-in_err-size-in-45 c =
     let first : get_or c.args.text.now 0 0 ≡ 45 = omega arith in
-    c.from-residual.ensures ∙ ap (option_map (λ n. neg_ℤ (pos n))) c.in-err-size.ensures ∙ sym (after_minus c.args.text.now first)
+    c.from_residual.ensures ∙ ap (option_map (λ n. neg_ℤ (pos n))) c.in_err-size-in-45.ensures ∙ sym (after_minus c.args.text.now first)
 
-pub returns-in-ok-size : goal.returns-in-ok-size
-returns-in-ok-size c =
+pub returns-in_ok-size-in-45 : goal.returns-in_ok-size-in-45
+returns-in_ok-size-in-45 c =
     let first : get_or c.args.text.now 0 0 ≡ 45 = omega arith in
-    let small : c.in-ok-size.size ≤ far = whole_small (take (length c.args.text.now - 1) (drop 1 c.args.text.now)) _ c.in-ok-size.ensures in
-    ap Some (negated c.in-ok-size.size small) ∙ ap (option_map (λ n. neg_ℤ (pos n))) c.in-ok-size.ensures ∙ sym (after_minus c.args.text.now first)
+    let small : c.in_ok-size-in-45.size ≤ far = whole_small (take (length c.args.text.now - 1) (drop 1 c.args.text.now)) _ c.in_ok-size-in-45.ensures in
+    ap Some (negated c.in_ok-size-in-45.size small) ∙ ap (option_map (λ n. neg_ℤ (pos n))) c.in_ok-size-in-45.ensures ∙ sym (after_minus c.args.text.now first)

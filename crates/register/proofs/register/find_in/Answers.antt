@@ -3,7 +3,7 @@ use Rattle.std.proofs.lemmas.List.{at_drop_all}
 use Rattle.register.specs.Rows.{is_at, lookup}
 use Rattle.register.proofs.Rows.{find-here, find-more}
 use Rattle.register.proofs.register.find_in.Goals as goal
-use Rattle.register.proofs.register.find_in.Goals.{in-Some+else-eq, in-default}
+use Rattle.register.proofs.register.find_in.Goals.{in-Some+else-eq, in_default}
 
 pub returns-then-eq : goal.returns-then-eq
 returns-then-eq g c =
@@ -15,7 +15,7 @@ loop-slot-preserved g c =
     let other : is_at g.R.Row.carried (g.R.Row.numbers c.args.key) c.slot-item.result ≡ false =
     elim c.match-slot.branch [
       | in-Some+else-eq w ↦ (let told = g.met.R.Row.tells w.key.result c.args.key false w.if-eq.ensures in cc)
-      | in-default w ↦ (cc)
+      | in_default w ↦ (cc)
     ] in
     find-more g.R.Row.carried c.args.rows.now c.loop-slot.slot-index c.slot-item.result (g.R.Row.numbers c.args.key) c.loop-slot-test.true c.slot-item.is other c.loop-slot.invariant
 

@@ -5,31 +5,31 @@ use Rattle.register.specs.Keys.{of_half_hour}
 use Rattle.register.specs.Rows.{vacated}
 use Rattle.register.proofs.Keys.{half_hour_tells}
 use Rattle.register.proofs.register.vacate_in.Goals as goal
-use Rattle.register.proofs.register.vacate_in.Goals.{in-Some+then-eq, in-Some+else-eq, in-default}
+use Rattle.register.proofs.register.vacate_in.Goals.{in-Some+then-eq, in-Some+else-eq, in_default}
 
 pub loop-slot-preserved : goal.loop-slot-preserved
 loop-slot-preserved g c =
-    let h = c.args.worked_half_hour in
+    let h = c.args.half_hour in
     let f = vacated g.R.Row.carried h.day h.interval in
     let next = map_over_more f c.args.rows.now c.loop-slot.rows c.loop-slot.slot-index c.slot-item.result c.loop-slot-test.true c.loop-slot.invariant c.slot-item.is in
     let written : c.match-slot.rows ≡ set c.loop-slot.rows c.loop-slot.slot-index (f c.slot-item.result) = elim c.match-slot.branch [
       | in-Some+then-eq w ↦ (
-          let told = half_hour_tells w.worked_half_hour.result.day h.day w.worked_half_hour.result.interval h.interval true w.if-eq.ensures in
+          let told = half_hour_tells w.half_hour.result.day h.day w.half_hour.result.interval h.interval true w.if-eq.ensures in
           let was : of_half_hour h.day h.interval (g.R.Row.carried w.in-Some.row) ≡ true = cc in
           let e : f (Some w.in-Some.row) ≡ None = ap (λ b. cond b None (Some w.in-Some.row)) was in
           cc)
       | in-Some+else-eq w ↦ (
-          let told = half_hour_tells w.worked_half_hour.result.day h.day w.worked_half_hour.result.interval h.interval false w.if-eq.ensures in
+          let told = half_hour_tells w.half_hour.result.day h.day w.half_hour.result.interval h.interval false w.if-eq.ensures in
           let was : of_half_hour h.day h.interval (g.R.Row.carried w.in-Some.row) ≡ false = cc in
           let e : f (Some w.in-Some.row) ≡ Some w.in-Some.row = ap (λ b. cond b None (Some w.in-Some.row)) was in
           cc)
-      | in-default w ↦ w.rows-is ∙ ap (set c.loop-slot.rows c.loop-slot.slot-index) (w.in-default.is ∙ sym (ap f (c.slot-item.is ∙ w.in-default.is)))
+      | in_default w ↦ w.rows-is ∙ ap (set c.loop-slot.rows c.loop-slot.slot-index) (w.in_default.is ∙ sym (ap f (c.slot-item.is ∙ w.in_default.is)))
     ] in
     written ∙ next
 
 pub returns : goal.returns
 returns g c =
-    let f = vacated g.R.Row.carried c.args.worked_half_hour.day c.args.worked_half_hour.interval in
+    let f = vacated g.R.Row.carried c.args.half_hour.day c.args.half_hour.interval in
     let front = take_all c.loop-slot.slot-index c.args.rows.now c.loop-slot-test.false in
     let back = drop_all c.loop-slot.slot-index c.args.rows.now c.loop-slot-test.false in
     let both = append-nil (map f c.args.rows.now) in

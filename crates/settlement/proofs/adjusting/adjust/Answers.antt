@@ -38,8 +38,8 @@ past_plan b o i p s e n h =
 some_same : (i j : IntervalSaid) → Some i ≡ Some j → i ≡ j
 some_same i j e = cc
 
-pub returns-in-err-plan : goal.returns-in-err-plan
-returns-in-err-plan g c =
+pub returns-in_err-plan : goal.returns-in_err-plan
+returns-in_err-plan g c =
     let step = c.args.step in
     let call = c.args.call.now in
     let h = house_says c.args.house.now in
@@ -50,8 +50,8 @@ returns-in-err-plan g c =
     let room = g.B.Book.room c.args.book.now in
     record {
       answer =
-          handed_on c.from-residual.result c.in-err-plan.field-0.0 c.from-residual.ensures.1
-          ∙ early c.in-err-plan.field-0.0 (not (is_stamped call)) (open_at is (stamped_key call)) (planned step call h fs ls) (λ i. statement_checks held room (adjusts step h i fs ls)) c.in-err-plan.ensures.answer;
+          handed_on c.from_residual.result c.in_err-plan.field-0.0 c.from_residual.ensures.1
+          ∙ early c.in_err-plan.field-0.0 (not (is_stamped call)) (open_at is (stamped_key call)) (planned step call h fs ls) (λ i. statement_checks held room (adjusts step h i fs ls)) c.in_err-plan.ensures.answer;
       intervals = search rules;
       house = search rules;
       book = search rules;
@@ -60,8 +60,8 @@ returns-in-err-plan g c =
       joined = λ j. two_are_one h.operator j fs ls;
     }
 
-pub returns-in-err-post-statement : goal.returns-in-err-post-statement
-returns-in-err-post-statement g c =
+pub returns-in_err-post-statement : goal.returns-in_err-post-statement
+returns-in_err-post-statement g c =
     let step = c.args.step in
     let call = c.args.call.now in
     let h = house_says c.args.house.now in
@@ -70,20 +70,20 @@ returns-in-err-post-statement g c =
     let ls = load_rows c.args.loads.now in
     let held = g.B.Book.held c.args.book.now in
     let room = g.B.Book.room c.args.book.now in
-    let plan = c.in-ok-plan.ensures in
+    let plan = c.in_ok-plan.ensures in
     let i = plan.planned.interval in
-    let amount = amount_of c.in-ok-plan.plan.amounts in
+    let amount = amount_of c.in_ok-plan.plan.amounts in
     record {
       answer =
-          handed_on c.from-residual-in-err-post-statement.result c.in-err-post-statement.field-0.0 c.from-residual-in-err-post-statement.ensures.1
-          ∙ c.in-err-post-statement.ensures.answer
+          handed_on c.from_residual-in_err-post-statement.result c.in_err-post-statement.field-0.0 c.from_residual-in_err-post-statement.ensures.1
+          ∙ c.in_err-post-statement.ensures.answer
           ∙ checks-same amount (adjusts step h i fs ls) plan.planned.amounts held room
           ∙ past_plan (not (is_stamped call)) (open_at is (stamped_key call)) i (planned step call h fs ls) (λ j. statement_checks held room (adjusts step h j fs ls)) plan.planned.opened (numbered (not (is_stamped call)) step call h fs ls i) plan.answer;
       intervals = search rules;
       house = search rules;
       book = search rules;
       turns = search rules;
-      conditions = c.in-err-post-statement.ensures.conditions;
+      conditions = c.in_err-post-statement.ensures.conditions;
       joined = λ j. two_are_one h.operator j fs ls;
     }
 
@@ -97,10 +97,10 @@ returns g c =
     let ls = load_rows c.args.loads.now in
     let held = g.B.Book.held c.args.book.now in
     let room = g.B.Book.room c.args.book.now in
-    let plan = c.in-ok-plan.ensures in
+    let plan = c.in_ok-plan.ensures in
     let i = plan.planned.interval in
-    let amount = amount_of c.in-ok-plan.plan.amounts in
-    let posted = c.in-ok-post-statement.ensures in
+    let amount = amount_of c.in_ok-plan.plan.amounts in
+    let posted = c.in_ok-post-statement.ensures in
     let new = c.post-statement.new.book in
     record {
       answer =

@@ -36,8 +36,8 @@ at_stamp step c s sd sm i =
 past_stamp : (step : Step) (call : StampedCall) (i : IntervalSaid) (more : List Check) → 0 ≡ first_met (adjusting_stamp step call i) → first_met more ≡ first_met (adjusting_stamp step call i ++ more)
 past_stamp step call i more h = passes (adjusting_stamp step call i) more (lit< tt, (lit< tt, (lit< tt, tt))) h
 
-pub returns-in-err-taken : goal.returns-in-err-taken
-returns-in-err-taken c =
+pub returns-in_err-taken : goal.returns-in_err-taken
+returns-in_err-taken c =
     let step = c.args.step in
     let call = c.args.call.now in
     let h = house_says c.args.house.now in
@@ -46,14 +46,14 @@ returns-in-err-taken c =
     let ls = load_rows c.args.loads.now in
     record {
       answer =
-          handed_on c.from-residual.result c.in-err-taken.field-0.0 c.from-residual.ensures.1
-          ∙ stops c.in-err-taken.field-0.0 (check 1 (not (is_stamped call)) ∷ []) (if_open (open_at is (stamped_key call)) (rest step call h fs ls)) c.in-err-taken.ensures.answer;
+          handed_on c.from_residual.result c.in_err-taken.field-0.0 c.from_residual.ensures.1
+          ∙ stops c.in_err-taken.field-0.0 (check 1 (not (is_stamped call)) ∷ []) (if_open (open_at is (stamped_key call)) (rest step call h fs ls)) c.in_err-taken.ensures.answer;
       intervals = search rules;
       planned = search rules;
     }
 
-pub returns-in-err-opened : goal.returns-in-err-opened
-returns-in-err-opened c =
+pub returns-in_err-opened : goal.returns-in_err-opened
+returns-in_err-opened c =
     let step = c.args.step in
     let call = c.args.call.now in
     let h = house_says c.args.house.now in
@@ -62,53 +62,53 @@ returns-in-err-opened c =
     let ls = load_rows c.args.loads.now in
     record {
       answer =
-          handed_on c.from-residual-in-err-opened.result c.in-err-opened.field-0.0 c.from-residual-in-err-opened.ensures.1
-          ∙ not_open c.in-err-opened.field-0.0 (not (is_stamped call)) (open_at is (stamped_key call)) (rest step call h fs ls) c.in-ok-taken.ensures.answer
-          (c.in-err-opened.ensures.answer ∙ ap (λ k. first_met (if_open (open_at is k) (λ _. []))) c.in-ok-taken.ensures.worked_half_hour);
+          handed_on c.from_residual-in_err-opened.result c.in_err-opened.field-0.0 c.from_residual-in_err-opened.ensures.1
+          ∙ not_open c.in_err-opened.field-0.0 (not (is_stamped call)) (open_at is (stamped_key call)) (rest step call h fs ls) c.in_ok-taken.ensures.answer
+          (c.in_err-opened.ensures.answer ∙ ap (λ k. first_met (if_open (open_at is k) (λ _. []))) c.in_ok-taken.ensures.half_hour);
       intervals = search rules;
       planned = search rules;
     }
 
-pub returns-in-err-check-stamp : goal.returns-in-err-check-stamp
-returns-in-err-check-stamp c =
+pub returns-in_err-check-stamp : goal.returns-in_err-check-stamp
+returns-in_err-check-stamp c =
     let step = c.args.step in
     let call = c.args.call.now in
     let h = house_says c.args.house.now in
     let is = interval_rows c.args.intervals.now in
     let fs = facility_rows c.args.facilities.now in
     let ls = load_rows c.args.loads.now in
-    let i = interval_says c.in-ok-opened.opened.row in
-    let found : open_at is (stamped_key call) ≡ Some i = ap (open_at is) (sym c.in-ok-taken.ensures.worked_half_hour) ∙ c.in-ok-opened.ensures.found in
-    let stamp = c.in-ok-taken.ensures.stamp in
-    let s = c.in-ok-taken.taken.stamp in
+    let i = interval_says c.in_ok-opened.opened.row in
+    let found : open_at is (stamped_key call) ≡ Some i = ap (open_at is) (sym c.in_ok-taken.ensures.half_hour) ∙ c.in_ok-opened.ensures.found in
+    let stamp = c.in_ok-taken.ensures.stamp in
+    let s = c.in_ok-taken.taken.stamp in
     record {
       answer =
-          handed_on c.from-residual-in-err-check-stamp.result c.in-err-check-stamp.field-0.0 c.from-residual-in-err-check-stamp.ensures.1
-          ∙ stops c.in-err-check-stamp.field-0.0 (adjusting_stamp step call i) (fifteen step h fs ls i ∷ []) (c.in-err-check-stamp.ensures ∙ at_stamp step call s stamp.0 stamp.1 i)
-          ∙ past_open (not (is_stamped call)) (open_at is (stamped_key call)) i (rest step call h fs ls) c.in-ok-taken.ensures.answer found;
+          handed_on c.from_residual-in_err-check-stamp.result c.in_err-check-stamp.field-0.0 c.from_residual-in_err-check-stamp.ensures.1
+          ∙ stops c.in_err-check-stamp.field-0.0 (adjusting_stamp step call i) (fifteen step h fs ls i ∷ []) (c.in_err-check-stamp.ensures ∙ at_stamp step call s stamp.0 stamp.1 i)
+          ∙ past_open (not (is_stamped call)) (open_at is (stamped_key call)) i (rest step call h fs ls) c.in_ok-taken.ensures.answer found;
       intervals = search rules;
       planned = search rules;
     }
 
-pub returns-in-err-house : goal.returns-in-err-house
-returns-in-err-house c =
+pub returns-in_err-house : goal.returns-in_err-house
+returns-in_err-house c =
     let step = c.args.step in
     let call = c.args.call.now in
     let h = house_says c.args.house.now in
     let is = interval_rows c.args.intervals.now in
     let fs = facility_rows c.args.facilities.now in
     let ls = load_rows c.args.loads.now in
-    let i = interval_says c.in-ok-opened.opened.row in
-    let found : open_at is (stamped_key call) ≡ Some i = ap (open_at is) (sym c.in-ok-taken.ensures.worked_half_hour) ∙ c.in-ok-opened.ensures.found in
-    let stamp = c.in-ok-taken.ensures.stamp in
-    let s = c.in-ok-taken.taken.stamp in
+    let i = interval_says c.in_ok-opened.opened.row in
+    let found : open_at is (stamped_key call) ≡ Some i = ap (open_at is) (sym c.in_ok-taken.ensures.half_hour) ∙ c.in_ok-opened.ensures.found in
+    let stamp = c.in_ok-taken.ensures.stamp in
+    let s = c.in_ok-taken.taken.stamp in
     record {
       answer =
-          handed_on c.from-residual-in-err-house.result c.in-err-house.field-0.0 c.from-residual-in-err-house.ensures.1
-          ∙ c.in-err-house.ensures.answer
+          handed_on c.from_residual-in_err-house.result c.in_err-house.field-0.0 c.from_residual-in_err-house.ensures.1
+          ∙ c.in_err-house.ensures.answer
           ∙ ap (λ z. first_met (check 15 (not (inside balance_range (h.pending +ℤ z))) ∷ [])) c.worked-worked.ensures.total
-          ∙ past_stamp step call i (fifteen step h fs ls i ∷ []) (c.in-ok-check-stamp.ensures ∙ at_stamp step call s stamp.0 stamp.1 i)
-          ∙ past_open (not (is_stamped call)) (open_at is (stamped_key call)) i (rest step call h fs ls) c.in-ok-taken.ensures.answer found;
+          ∙ past_stamp step call i (fifteen step h fs ls i ∷ []) (c.in_ok-check-stamp.ensures ∙ at_stamp step call s stamp.0 stamp.1 i)
+          ∙ past_open (not (is_stamped call)) (open_at is (stamped_key call)) i (rest step call h fs ls) c.in_ok-taken.ensures.answer found;
       intervals = search rules;
       planned = search rules;
     }
@@ -121,27 +121,27 @@ returns c =
     let is = interval_rows c.args.intervals.now in
     let fs = facility_rows c.args.facilities.now in
     let ls = load_rows c.args.loads.now in
-    let i = interval_says c.in-ok-opened.opened.row in
-    let found : open_at is (stamped_key call) ≡ Some i = ap (open_at is) (sym c.in-ok-taken.ensures.worked_half_hour) ∙ c.in-ok-opened.ensures.found in
-    let stamp = c.in-ok-taken.ensures.stamp in
-    let s = c.in-ok-taken.taken.stamp in
-    let opened = c.in-ok-opened.opened.row in
+    let i = interval_says c.in_ok-opened.opened.row in
+    let found : open_at is (stamped_key call) ≡ Some i = ap (open_at is) (sym c.in_ok-taken.ensures.half_hour) ∙ c.in_ok-opened.ensures.found in
+    let stamp = c.in_ok-taken.ensures.stamp in
+    let s = c.in_ok-taken.taken.stamp in
+    let opened = c.in_ok-opened.opened.row in
     let moved = c.moved-row.result in
     let kept = c.moved-row.ensures.kept in
     record {
       answer =
-          c.in-ok-house.ensures.answer
+          c.in_ok-house.ensures.answer
           ∙ ap (λ z. first_met (check 15 (not (inside balance_range (h.pending +ℤ z))) ∷ [])) c.worked-worked.ensures.total
-          ∙ past_stamp step call i (fifteen step h fs ls i ∷ []) (c.in-ok-check-stamp.ensures ∙ at_stamp step call s stamp.0 stamp.1 i)
-          ∙ past_open (not (is_stamped call)) (open_at is (stamped_key call)) i (rest step call h fs ls) c.in-ok-taken.ensures.answer found;
+          ∙ past_stamp step call i (fifteen step h fs ls i ∷ []) (c.in_ok-check-stamp.ensures ∙ at_stamp step call s stamp.0 stamp.1 i)
+          ∙ past_open (not (is_stamped call)) (open_at is (stamped_key call)) i (rest step call h fs ls) c.in_ok-taken.ensures.answer found;
       intervals =
-          c.in-ok-opened.ensures.writes moved (ap key_of kept.0 ∙ lookup-carries interval_named is _ i c.in-ok-opened.ensures.found)
+          c.in_ok-opened.ensures.writes moved (ap key_of kept.0 ∙ lookup-carries interval_named is _ i c.in_ok-opened.ensures.found)
           ∙ ap (λ j. put_row interval_named is (Some j)) (moved-is call.days call.minute s stamp.0 stamp.1 opened moved (to_phase step) kept.0 kept.1 kept.2 kept.3 (c.moved-row.ensures.phase ∙ c.to_phase.ensures) c.moved-row.ensures.last)
           ∙ ap (λ o. put_row interval_named is (option_map (moved_to (to_phase step) call.days call.minute) o)) (sym found);
       planned = record {
         interval = i;
         opened = found;
-        house = c.in-ok-house.ensures.house ∙ ap (λ z. with_pending (h.pending +ℤ z) h) c.worked-worked.ensures.total;
+        house = c.in_ok-house.ensures.house ∙ ap (λ z. with_pending (h.pending +ℤ z) h) c.worked-worked.ensures.total;
         amounts = c.worked-worked.ensures.amounts;
       };
     }

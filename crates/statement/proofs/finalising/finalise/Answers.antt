@@ -106,7 +106,7 @@ returns g c =
     let found = plan.figures.1.0 in
     let amount = amount_of c.credits-amounts.result in
     let same = c.credits-amounts.ensures (basis i) plan.figures.1.1.lines in
-    let posted = c.in-default.ensures in
+    let posted = c.in_default.ensures in
     let new = c.post-statement.new.book in
     record {
       answer = posted.answer ∙ checks-same amount (nasc_of (basis i)) same held room ∙ past_plan (is_stamp d m) (not (belongs st h.number is)) (open_at is (statement_key st)) i (rest d m n basis) (λ j. statement_checks held room (nasc_of (basis j))) found (numbered (not (is_stamp d m)) (not (belongs st h.number is)) d m n basis i) plan.answer;

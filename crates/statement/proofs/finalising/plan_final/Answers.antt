@@ -65,8 +65,8 @@ finalised_is : (i j k : Interval) (d m u : ℤ) (s : Stamp) → s.days ≡ nat_a
     → interval_says k ≡ finalised d m basis (interval_says i)
 finalised_is i j k d m u s sd sm basis ue h1 u1 r1 p1 l1 h2 u2 r2 p2 l2 q = cc
 
-pub returns-in-err-check-stamp : goal.returns-in-err-check-stamp
-returns-in-err-check-stamp c =
+pub returns-in_err-check-stamp : goal.returns-in_err-check-stamp
+returns-in_err-check-stamp c =
     let d = c.args.call.now.days in
     let m = c.args.call.now.minute in
     let st = c.args.statement.now in
@@ -74,24 +74,24 @@ returns-in-err-check-stamp c =
     let is = interval_rows c.args.intervals.now in
     let basis : IntervalSaid → Basis = λ i. basis_in h i (facility_rows c.args.facilities.now) (load_rows c.args.loads.now) (contract_rows c.args.contracts.now) (vesting_rows c.args.vestings.now) in
     let good : true ≡ is_stamp d m = search rules in
-    let days : pos c.in-ok-stamp.stamp.days ≡ d = search rules in
-    let minute : pos c.in-ok-stamp.stamp.minute ≡ m = search rules in
-    let s = c.in-ok-stamp.stamp in
-    let i = interval_says c.in-ok-opened.opened.row in
-    let found : open_at is (statement_key st) ≡ Some i = c.in-ok-opened.ensures.found in
+    let days : pos c.in_ok-stamp.stamp.days ≡ d = search rules in
+    let minute : pos c.in_ok-stamp.stamp.minute ≡ m = search rules in
+    let s = c.in_ok-stamp.stamp in
+    let i = interval_says c.in_ok-opened.opened.row in
+    let found : open_at is (statement_key st) ≡ Some i = c.in_ok-opened.ensures.found in
     let stamp = at_stamp d m s (as_given _ _ days) (as_given _ _ minute) i in
     record {
       answer =
-          handed_on c.from-residual-in-err-check-stamp.result c.in-err-check-stamp.field-0.0 c.from-residual-in-err-check-stamp.ensures.1
-          ∙ stops c.in-err-check-stamp.field-0.0 (final_stamp d m i) (check 11 (ltb c.args.count accounts) ∷ settling_checks (basis i)) (c.in-err-check-stamp.ensures ∙ stamp)
-          ∙ past_two (is_stamp d m) (not (belongs st h.number is)) (open_at is (statement_key st)) i (rest d m c.args.count basis) good c.in-ok-opened.ensures.answer found;
+          handed_on c.from_residual-in_err-check-stamp.result c.in_err-check-stamp.field-0.0 c.from_residual-in_err-check-stamp.ensures.1
+          ∙ stops c.in_err-check-stamp.field-0.0 (final_stamp d m i) (check 11 (ltb c.args.count accounts) ∷ settling_checks (basis i)) (c.in_err-check-stamp.ensures ∙ stamp)
+          ∙ past_two (is_stamp d m) (not (belongs st h.number is)) (open_at is (statement_key st)) i (rest d m c.args.count basis) good c.in_ok-opened.ensures.answer found;
       intervals = search rules;
       figures = search rules;
       lines = search rules;
     }
 
-pub returns-in-err-check-lines : goal.returns-in-err-check-lines
-returns-in-err-check-lines c =
+pub returns-in_err-check-lines : goal.returns-in_err-check-lines
+returns-in_err-check-lines c =
     let d = c.args.call.now.days in
     let m = c.args.call.now.minute in
     let st = c.args.statement.now in
@@ -99,25 +99,25 @@ returns-in-err-check-lines c =
     let is = interval_rows c.args.intervals.now in
     let basis : IntervalSaid → Basis = λ i. basis_in h i (facility_rows c.args.facilities.now) (load_rows c.args.loads.now) (contract_rows c.args.contracts.now) (vesting_rows c.args.vestings.now) in
     let good : true ≡ is_stamp d m = search rules in
-    let days : pos c.in-ok-stamp.stamp.days ≡ d = search rules in
-    let minute : pos c.in-ok-stamp.stamp.minute ≡ m = search rules in
-    let s = c.in-ok-stamp.stamp in
-    let i = interval_says c.in-ok-opened.opened.row in
-    let found : open_at is (statement_key st) ≡ Some i = c.in-ok-opened.ensures.found in
+    let days : pos c.in_ok-stamp.stamp.days ≡ d = search rules in
+    let minute : pos c.in_ok-stamp.stamp.minute ≡ m = search rules in
+    let s = c.in_ok-stamp.stamp in
+    let i = interval_says c.in_ok-opened.opened.row in
+    let found : open_at is (statement_key st) ≡ Some i = c.in_ok-opened.ensures.found in
     let stamp = at_stamp d m s (as_given _ _ days) (as_given _ _ minute) i in
     record {
       answer =
-          handed_on c.from-residual-in-err-check-lines.result c.in-err-check-lines.field-0.0 c.from-residual-in-err-check-lines.ensures.1
-          ∙ stops c.in-err-check-lines.field-0.0 (check 11 (ltb c.args.count accounts) ∷ []) (settling_checks (basis i)) c.in-err-check-lines.ensures
-          ∙ past_stamp d m i (check 11 (ltb c.args.count accounts) ∷ settling_checks (basis i)) (c.in-ok-check-stamp.ensures ∙ stamp)
-          ∙ past_two (is_stamp d m) (not (belongs st h.number is)) (open_at is (statement_key st)) i (rest d m c.args.count basis) good c.in-ok-opened.ensures.answer found;
+          handed_on c.from_residual-in_err-check-lines.result c.in_err-check-lines.field-0.0 c.from_residual-in_err-check-lines.ensures.1
+          ∙ stops c.in_err-check-lines.field-0.0 (check 11 (ltb c.args.count accounts) ∷ []) (settling_checks (basis i)) c.in_err-check-lines.ensures
+          ∙ past_stamp d m i (check 11 (ltb c.args.count accounts) ∷ settling_checks (basis i)) (c.in_ok-check-stamp.ensures ∙ stamp)
+          ∙ past_two (is_stamp d m) (not (belongs st h.number is)) (open_at is (statement_key st)) i (rest d m c.args.count basis) good c.in_ok-opened.ensures.answer found;
       intervals = search rules;
       figures = search rules;
       lines = search rules;
     }
 
-pub returns-in-err-figures : goal.returns-in-err-figures
-returns-in-err-figures c =
+pub returns-in_err-figures : goal.returns-in_err-figures
+returns-in_err-figures c =
     let d = c.args.call.now.days in
     let m = c.args.call.now.minute in
     let st = c.args.statement.now in
@@ -125,26 +125,26 @@ returns-in-err-figures c =
     let is = interval_rows c.args.intervals.now in
     let basis : IntervalSaid → Basis = λ i. basis_in h i (facility_rows c.args.facilities.now) (load_rows c.args.loads.now) (contract_rows c.args.contracts.now) (vesting_rows c.args.vestings.now) in
     let good : true ≡ is_stamp d m = search rules in
-    let days : pos c.in-ok-stamp.stamp.days ≡ d = search rules in
-    let minute : pos c.in-ok-stamp.stamp.minute ≡ m = search rules in
-    let s = c.in-ok-stamp.stamp in
-    let i = interval_says c.in-ok-opened.opened.row in
-    let found : open_at is (statement_key st) ≡ Some i = c.in-ok-opened.ensures.found in
+    let days : pos c.in_ok-stamp.stamp.days ≡ d = search rules in
+    let minute : pos c.in_ok-stamp.stamp.minute ≡ m = search rules in
+    let s = c.in_ok-stamp.stamp in
+    let i = interval_says c.in_ok-opened.opened.row in
+    let found : open_at is (statement_key st) ≡ Some i = c.in_ok-opened.ensures.found in
     let stamp = at_stamp d m s (as_given _ _ days) (as_given _ _ minute) i in
     record {
       answer =
-          handed_on c.from-residual-in-err-figures.result c.in-err-figures.field-0.0 c.from-residual-in-err-figures.ensures.1
-          ∙ c.in-err-figures.ensures.answer
-          ∙ past_lines c.args.count (settling_checks (basis i)) c.in-ok-check-lines.ensures
-          ∙ past_stamp d m i (check 11 (ltb c.args.count accounts) ∷ settling_checks (basis i)) (c.in-ok-check-stamp.ensures ∙ stamp)
-          ∙ past_two (is_stamp d m) (not (belongs st h.number is)) (open_at is (statement_key st)) i (rest d m c.args.count basis) good c.in-ok-opened.ensures.answer found;
+          handed_on c.from_residual-in_err-figures.result c.in_err-figures.field-0.0 c.from_residual-in_err-figures.ensures.1
+          ∙ c.in_err-figures.ensures.answer
+          ∙ past_lines c.args.count (settling_checks (basis i)) c.in_ok-check-lines.ensures
+          ∙ past_stamp d m i (check 11 (ltb c.args.count accounts) ∷ settling_checks (basis i)) (c.in_ok-check-stamp.ensures ∙ stamp)
+          ∙ past_two (is_stamp d m) (not (belongs st h.number is)) (open_at is (statement_key st)) i (rest d m c.args.count basis) good c.in_ok-opened.ensures.answer found;
       intervals = search rules;
       figures = search rules;
       lines = search rules;
     }
 
-pub returns-in-err-row : goal.returns-in-err-row
-returns-in-err-row c =
+pub returns-in_err-row : goal.returns-in_err-row
+returns-in_err-row c =
     let d = c.args.call.now.days in
     let m = c.args.call.now.minute in
     let st = c.args.statement.now in
@@ -152,15 +152,15 @@ returns-in-err-row c =
     let is = interval_rows c.args.intervals.now in
     let basis : IntervalSaid → Basis = λ i. basis_in h i (facility_rows c.args.facilities.now) (load_rows c.args.loads.now) (contract_rows c.args.contracts.now) (vesting_rows c.args.vestings.now) in
     let good : true ≡ is_stamp d m = search rules in
-    let days : pos c.in-ok-stamp.stamp.days ≡ d = search rules in
-    let minute : pos c.in-ok-stamp.stamp.minute ≡ m = search rules in
-    let s = c.in-ok-stamp.stamp in
-    let i = interval_says c.in-ok-opened.opened.row in
-    let found : open_at is (statement_key st) ≡ Some i = c.in-ok-opened.ensures.found in
+    let days : pos c.in_ok-stamp.stamp.days ≡ d = search rules in
+    let minute : pos c.in_ok-stamp.stamp.minute ≡ m = search rules in
+    let s = c.in_ok-stamp.stamp in
+    let i = interval_says c.in_ok-opened.opened.row in
+    let found : open_at is (statement_key st) ≡ Some i = c.in_ok-opened.ensures.found in
     let stamp = at_stamp d m s (as_given _ _ days) (as_given _ _ minute) i in
-    let rate = c.in-ok-figures.ensures.figures.uplift.rate in
-    let fine = rate_fine (basis i) c.in-ok-figures.ensures.answer in
-    absurd (false≢true (c.in-err-row.ensures.accepts ∙ ap (inside uplift_range) rate ∙ fine))
+    let rate = c.in_ok-figures.ensures.figures.uplift.rate in
+    let fine = rate_fine (basis i) c.in_ok-figures.ensures.answer in
+    absurd (false≢true (c.in_err-row.ensures.accepts ∙ ap (inside uplift_range) rate ∙ fine))
 
 pub returns : goal.returns
 returns c =
@@ -171,25 +171,25 @@ returns c =
     let is = interval_rows c.args.intervals.now in
     let basis : IntervalSaid → Basis = λ i. basis_in h i (facility_rows c.args.facilities.now) (load_rows c.args.loads.now) (contract_rows c.args.contracts.now) (vesting_rows c.args.vestings.now) in
     let good : true ≡ is_stamp d m = search rules in
-    let days : pos c.in-ok-stamp.stamp.days ≡ d = search rules in
-    let minute : pos c.in-ok-stamp.stamp.minute ≡ m = search rules in
-    let s = c.in-ok-stamp.stamp in
-    let i = interval_says c.in-ok-opened.opened.row in
-    let found : open_at is (statement_key st) ≡ Some i = c.in-ok-opened.ensures.found in
+    let days : pos c.in_ok-stamp.stamp.days ≡ d = search rules in
+    let minute : pos c.in_ok-stamp.stamp.minute ≡ m = search rules in
+    let s = c.in_ok-stamp.stamp in
+    let i = interval_says c.in_ok-opened.opened.row in
+    let found : open_at is (statement_key st) ≡ Some i = c.in_ok-opened.ensures.found in
     let stamp = at_stamp d m s (as_given _ _ days) (as_given _ _ minute) i in
     let moved = c.moved-moved.ensures in
-    let made = c.in-ok-row.ensures.made in
-    let opened = c.in-ok-opened.opened.row in
+    let made = c.in_ok-row.ensures.made in
+    let opened = c.in_ok-opened.opened.row in
     record {
       answer =
-          c.in-ok-figures.ensures.answer
-          ∙ past_lines c.args.count (settling_checks (basis i)) c.in-ok-check-lines.ensures
-          ∙ past_stamp d m i (check 11 (ltb c.args.count accounts) ∷ settling_checks (basis i)) (c.in-ok-check-stamp.ensures ∙ stamp)
-          ∙ past_two (is_stamp d m) (not (belongs st h.number is)) (open_at is (statement_key st)) i (rest d m c.args.count basis) good c.in-ok-opened.ensures.answer found;
+          c.in_ok-figures.ensures.answer
+          ∙ past_lines c.args.count (settling_checks (basis i)) c.in_ok-check-lines.ensures
+          ∙ past_stamp d m i (check 11 (ltb c.args.count accounts) ∷ settling_checks (basis i)) (c.in_ok-check-stamp.ensures ∙ stamp)
+          ∙ past_two (is_stamp d m) (not (belongs st h.number is)) (open_at is (statement_key st)) i (rest d m c.args.count basis) good c.in_ok-opened.ensures.answer found;
       intervals =
-          c.in-ok-opened.ensures.writes c.in-ok-row.row (ap key_of (made.0 ∙ moved.kept.0) ∙ lookup-carries interval_named is (statement_key st) i found)
-          ∙ ap (λ j. put_row interval_named is (Some j)) (finalised_is opened c.moved-moved.result c.in-ok-row.row d m _ s (as_given _ _ days) (as_given _ _ minute) basis c.in-ok-figures.ensures.figures.uplift.rate moved.kept.0 moved.kept.1 moved.kept.2 moved.phase moved.last made.0 made.1 made.2 made.3 made.4 made.5)
+          c.in_ok-opened.ensures.writes c.in_ok-row.row (ap key_of (made.0 ∙ moved.kept.0) ∙ lookup-carries interval_named is (statement_key st) i found)
+          ∙ ap (λ j. put_row interval_named is (Some j)) (finalised_is opened c.moved-moved.result c.in_ok-row.row d m _ s (as_given _ _ days) (as_given _ _ minute) basis c.in_ok-figures.ensures.figures.uplift.rate moved.kept.0 moved.kept.1 moved.kept.2 moved.phase moved.last made.0 made.1 made.2 made.3 made.4 made.5)
           ∙ ap (λ o. put_row interval_named is (option_map (finalised d m basis) o)) (sym found);
-      figures = (i, (found, c.in-ok-figures.ensures.figures));
-      lines = enough c.args.count c.in-ok-check-lines.ensures;
+      figures = (i, (found, c.in_ok-figures.ensures.figures));
+      lines = enough c.args.count c.in_ok-check-lines.ensures;
     }

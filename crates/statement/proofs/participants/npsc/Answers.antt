@@ -16,7 +16,7 @@ pub returns : goal.returns
 returns c =
     let lines = c.args.lines.now in
     let h = house_says c.args.house.now in
-    let same : nat_abs (to_z w64 (of_z w64 c.in-ok-participant.field-0)) ≡ nat_abs c.args.participant = search rules in
+    let same : nat_abs (to_z w64 (of_z w64 c.in_ok-participant.field-0)) ≡ nat_abs c.args.participant = search rules in
     let good : true ≡ inside account_range c.args.participant = search rules in
     record {
       answer =

@@ -38,8 +38,8 @@ amount_at ps p lines k l h lt e =
 amounts_count : (ps : List ℕ) (p : ℕ) (lines : List Line) → accounts ≤ length lines → length (map (credited ps p) (take accounts lines)) ≡ accounts
 amounts_count ps p lines h = length-map (take accounts lines) (credited ps p) ∙ length-take-le accounts lines h
 
-pub returns-in-err-sum : goal.returns-in-err-sum
-returns-in-err-sum c =
+pub returns-in_err-sum : goal.returns-in_err-sum
+returns-in_err-sum c =
     let ps = (house_says c.args.house.now).participants in
     let lines = c.args.lines.now in
     let zs = map (credited ps c.args.participant) (take accounts lines) in
@@ -48,9 +48,9 @@ returns-in-err-sum c =
     let same : c.credited.result.0 ≡ get_or zs k (pos 0) = c.credited.ensures ∙ sym (amount_at ps c.args.participant lines k c.index-lines-k.result c.requires c.loop-k-test.true c.index-lines-k.is) in
     let none : added (pos 0) zs ≡ None =
     ap (added (pos 0)) (split_at zs k (pos 0) (omega (arith, n)))
-    ∙ beyond (pos 0) c.loop-k.sum.0 (get_or zs k (pos 0)) (take k zs) (drop (k + 1) zs) c.loop-k.invariant (ap (λ z. inside sum_range (c.loop-k.sum.0 +ℤ z)) (sym same) ∙ c.in-err-sum.ensures.1) in
+    ∙ beyond (pos 0) c.loop-k.sum.0 (get_or zs k (pos 0)) (take k zs) (drop (k + 1) zs) c.loop-k.invariant (ap (λ z. inside sum_range (c.loop-k.sum.0 +ℤ z)) (sym same) ∙ c.in_err-sum.ensures.1) in
     record {
-      answer = handed_on c.from-residual.result c.in-err-sum.field-0.0 c.from-residual.ensures.1 ∙ ap refusal_number c.in-err-sum.ensures.0 ∙ ap (λ o. first_met (check 15 (not (is_some o)) ∷ [])) (sym none);
+      answer = handed_on c.from_residual.result c.in_err-sum.field-0.0 c.from_residual.ensures.1 ∙ ap refusal_number c.in_err-sum.ensures.0 ∙ ap (λ o. first_met (check 15 (not (is_some o)) ∷ [])) (sym none);
       value = search rules;
     }
 
@@ -62,7 +62,7 @@ loop-k-preserved c =
     let k = c.loop-k.k in
     let n = amounts_count ps c.args.participant lines c.requires in
     let same : c.credited.result.0 ≡ get_or zs k (pos 0) = c.credited.ensures ∙ sym (amount_at ps c.args.participant lines k c.index-lines-k.result c.requires c.loop-k-test.true c.index-lines-k.is) in
-    let added' = c.in-ok-sum.ensures in
+    let added' = c.in_ok-sum.ensures in
     ap (added (pos 0)) (take_more zs k (pos 0) (omega (arith, n)))
     ∙ one_more (pos 0) c.loop-k.sum.0 (get_or zs k (pos 0)) (take k zs) c.loop-k.invariant (ap (λ z. inside sum_range (c.loop-k.sum.0 +ℤ z)) (sym same) ∙ added'.1)
     ∙ ap (λ z. Some (c.loop-k.sum.0 +ℤ z)) (sym same) ∙ ap Some (sym added'.0)

@@ -36,102 +36,102 @@ some_same i j e = cc
 enough : (n : ℕ) → 0 ≡ first_met (check 11 (ltb n accounts) ∷ []) → accounts ≤ n
 enough n h = grind (arith, nat_tests)
 
-pub returns-in-err-taken : goal.returns-in-err-taken
-returns-in-err-taken c =
+pub returns-in_err-taken : goal.returns-in_err-taken
+returns-in_err-taken c =
     let call = c.args.call.now in
     let h = house_says c.args.house.now in
     let is = interval_rows c.args.intervals.now in
     let basis : IntervalSaid → Basis = λ i. basis_in h i (facility_rows c.args.facilities.now) (load_rows c.args.loads.now) (contract_rows c.args.contracts.now) (vesting_rows c.args.vestings.now) in
     record {
       answer =
-          handed_on c.from-residual.result c.in-err-taken.field-0.0 c.from-residual.ensures.1
-          ∙ stops c.in-err-taken.field-0.0 (check 1 (not (is_stamped call)) ∷ []) (if_open (open_at is (stamped_key call)) (rest call c.args.count basis)) c.in-err-taken.ensures.answer;
+          handed_on c.from_residual.result c.in_err-taken.field-0.0 c.from_residual.ensures.1
+          ∙ stops c.in_err-taken.field-0.0 (check 1 (not (is_stamped call)) ∷ []) (if_open (open_at is (stamped_key call)) (rest call c.args.count basis)) c.in_err-taken.ensures.answer;
       intervals = search rules;
       figures = search rules;
-      worked_half_hour = search rules;
+      half_hour = search rules;
       lines = search rules;
     }
 
-pub returns-in-err-opened : goal.returns-in-err-opened
-returns-in-err-opened c =
+pub returns-in_err-opened : goal.returns-in_err-opened
+returns-in_err-opened c =
     let call = c.args.call.now in
     let h = house_says c.args.house.now in
     let is = interval_rows c.args.intervals.now in
     let basis : IntervalSaid → Basis = λ i. basis_in h i (facility_rows c.args.facilities.now) (load_rows c.args.loads.now) (contract_rows c.args.contracts.now) (vesting_rows c.args.vestings.now) in
     record {
       answer =
-          handed_on c.from-residual-in-err-opened.result c.in-err-opened.field-0.0 c.from-residual-in-err-opened.ensures.1
-          ∙ not_open c.in-err-opened.field-0.0 (not (is_stamped call)) (open_at is (stamped_key call)) (rest call c.args.count basis) c.in-ok-taken.ensures.answer
-          (c.in-err-opened.ensures.answer ∙ ap (λ k. first_met (if_open (open_at is k) (λ _. []))) c.in-ok-taken.ensures.worked_half_hour);
+          handed_on c.from_residual-in_err-opened.result c.in_err-opened.field-0.0 c.from_residual-in_err-opened.ensures.1
+          ∙ not_open c.in_err-opened.field-0.0 (not (is_stamped call)) (open_at is (stamped_key call)) (rest call c.args.count basis) c.in_ok-taken.ensures.answer
+          (c.in_err-opened.ensures.answer ∙ ap (λ k. first_met (if_open (open_at is k) (λ _. []))) c.in_ok-taken.ensures.half_hour);
       intervals = search rules;
       figures = search rules;
-      worked_half_hour = search rules;
+      half_hour = search rules;
       lines = search rules;
     }
 
-pub returns-in-err-check-stamp : goal.returns-in-err-check-stamp
-returns-in-err-check-stamp c =
+pub returns-in_err-check-stamp : goal.returns-in_err-check-stamp
+returns-in_err-check-stamp c =
     let call = c.args.call.now in
     let h = house_says c.args.house.now in
     let is = interval_rows c.args.intervals.now in
     let basis : IntervalSaid → Basis = λ i. basis_in h i (facility_rows c.args.facilities.now) (load_rows c.args.loads.now) (contract_rows c.args.contracts.now) (vesting_rows c.args.vestings.now) in
-    let i = interval_says c.in-ok-opened.opened.row in
-    let found : open_at is (stamped_key call) ≡ Some i = ap (open_at is) (sym c.in-ok-taken.ensures.worked_half_hour) ∙ c.in-ok-opened.ensures.found in
-    let stamp = c.in-ok-taken.ensures.stamp in
-    let s = c.in-ok-taken.taken.stamp in
+    let i = interval_says c.in_ok-opened.opened.row in
+    let found : open_at is (stamped_key call) ≡ Some i = ap (open_at is) (sym c.in_ok-taken.ensures.half_hour) ∙ c.in_ok-opened.ensures.found in
+    let stamp = c.in_ok-taken.ensures.stamp in
+    let s = c.in_ok-taken.taken.stamp in
     record {
       answer =
-          handed_on c.from-residual-in-err-check-stamp.result c.in-err-check-stamp.field-0.0 c.from-residual-in-err-check-stamp.ensures.1
-          ∙ stops c.in-err-check-stamp.field-0.0 (preliminary_stamp call i) (check 11 (ltb c.args.count accounts) ∷ settling_checks (basis i)) (c.in-err-check-stamp.ensures ∙ at_stamp call s stamp.0 stamp.1 i)
-          ∙ past_open (not (is_stamped call)) (open_at is (stamped_key call)) i (rest call c.args.count basis) c.in-ok-taken.ensures.answer found;
+          handed_on c.from_residual-in_err-check-stamp.result c.in_err-check-stamp.field-0.0 c.from_residual-in_err-check-stamp.ensures.1
+          ∙ stops c.in_err-check-stamp.field-0.0 (preliminary_stamp call i) (check 11 (ltb c.args.count accounts) ∷ settling_checks (basis i)) (c.in_err-check-stamp.ensures ∙ at_stamp call s stamp.0 stamp.1 i)
+          ∙ past_open (not (is_stamped call)) (open_at is (stamped_key call)) i (rest call c.args.count basis) c.in_ok-taken.ensures.answer found;
       intervals = search rules;
       figures = search rules;
-      worked_half_hour = search rules;
+      half_hour = search rules;
       lines = search rules;
     }
 
-pub returns-in-err-check-lines : goal.returns-in-err-check-lines
-returns-in-err-check-lines c =
+pub returns-in_err-check-lines : goal.returns-in_err-check-lines
+returns-in_err-check-lines c =
     let call = c.args.call.now in
     let h = house_says c.args.house.now in
     let is = interval_rows c.args.intervals.now in
     let basis : IntervalSaid → Basis = λ i. basis_in h i (facility_rows c.args.facilities.now) (load_rows c.args.loads.now) (contract_rows c.args.contracts.now) (vesting_rows c.args.vestings.now) in
-    let i = interval_says c.in-ok-opened.opened.row in
-    let found : open_at is (stamped_key call) ≡ Some i = ap (open_at is) (sym c.in-ok-taken.ensures.worked_half_hour) ∙ c.in-ok-opened.ensures.found in
-    let stamp = c.in-ok-taken.ensures.stamp in
-    let s = c.in-ok-taken.taken.stamp in
+    let i = interval_says c.in_ok-opened.opened.row in
+    let found : open_at is (stamped_key call) ≡ Some i = ap (open_at is) (sym c.in_ok-taken.ensures.half_hour) ∙ c.in_ok-opened.ensures.found in
+    let stamp = c.in_ok-taken.ensures.stamp in
+    let s = c.in_ok-taken.taken.stamp in
     record {
       answer =
-          handed_on c.from-residual-in-err-check-lines.result c.in-err-check-lines.field-0.0 c.from-residual-in-err-check-lines.ensures.1
-          ∙ stops c.in-err-check-lines.field-0.0 (check 11 (ltb c.args.count accounts) ∷ []) (settling_checks (basis i)) c.in-err-check-lines.ensures
-          ∙ past_stamp call i (check 11 (ltb c.args.count accounts) ∷ settling_checks (basis i)) (c.in-ok-check-stamp.ensures ∙ at_stamp call s stamp.0 stamp.1 i)
-          ∙ past_open (not (is_stamped call)) (open_at is (stamped_key call)) i (rest call c.args.count basis) c.in-ok-taken.ensures.answer found;
+          handed_on c.from_residual-in_err-check-lines.result c.in_err-check-lines.field-0.0 c.from_residual-in_err-check-lines.ensures.1
+          ∙ stops c.in_err-check-lines.field-0.0 (check 11 (ltb c.args.count accounts) ∷ []) (settling_checks (basis i)) c.in_err-check-lines.ensures
+          ∙ past_stamp call i (check 11 (ltb c.args.count accounts) ∷ settling_checks (basis i)) (c.in_ok-check-stamp.ensures ∙ at_stamp call s stamp.0 stamp.1 i)
+          ∙ past_open (not (is_stamped call)) (open_at is (stamped_key call)) i (rest call c.args.count basis) c.in_ok-taken.ensures.answer found;
       intervals = search rules;
       figures = search rules;
-      worked_half_hour = search rules;
+      half_hour = search rules;
       lines = search rules;
     }
 
-pub returns-in-err-figures : goal.returns-in-err-figures
-returns-in-err-figures c =
+pub returns-in_err-figures : goal.returns-in_err-figures
+returns-in_err-figures c =
     let call = c.args.call.now in
     let h = house_says c.args.house.now in
     let is = interval_rows c.args.intervals.now in
     let basis : IntervalSaid → Basis = λ i. basis_in h i (facility_rows c.args.facilities.now) (load_rows c.args.loads.now) (contract_rows c.args.contracts.now) (vesting_rows c.args.vestings.now) in
-    let i = interval_says c.in-ok-opened.opened.row in
-    let found : open_at is (stamped_key call) ≡ Some i = ap (open_at is) (sym c.in-ok-taken.ensures.worked_half_hour) ∙ c.in-ok-opened.ensures.found in
-    let stamp = c.in-ok-taken.ensures.stamp in
-    let s = c.in-ok-taken.taken.stamp in
+    let i = interval_says c.in_ok-opened.opened.row in
+    let found : open_at is (stamped_key call) ≡ Some i = ap (open_at is) (sym c.in_ok-taken.ensures.half_hour) ∙ c.in_ok-opened.ensures.found in
+    let stamp = c.in_ok-taken.ensures.stamp in
+    let s = c.in_ok-taken.taken.stamp in
     record {
       answer =
-          handed_on c.from-residual-in-err-figures.result c.in-err-figures.field-0.0 c.from-residual-in-err-figures.ensures.1
-          ∙ c.in-err-figures.ensures.answer
-          ∙ past_lines c.args.count (settling_checks (basis i)) c.in-ok-check-lines.ensures
-          ∙ past_stamp call i (check 11 (ltb c.args.count accounts) ∷ settling_checks (basis i)) (c.in-ok-check-stamp.ensures ∙ at_stamp call s stamp.0 stamp.1 i)
-          ∙ past_open (not (is_stamped call)) (open_at is (stamped_key call)) i (rest call c.args.count basis) c.in-ok-taken.ensures.answer found;
+          handed_on c.from_residual-in_err-figures.result c.in_err-figures.field-0.0 c.from_residual-in_err-figures.ensures.1
+          ∙ c.in_err-figures.ensures.answer
+          ∙ past_lines c.args.count (settling_checks (basis i)) c.in_ok-check-lines.ensures
+          ∙ past_stamp call i (check 11 (ltb c.args.count accounts) ∷ settling_checks (basis i)) (c.in_ok-check-stamp.ensures ∙ at_stamp call s stamp.0 stamp.1 i)
+          ∙ past_open (not (is_stamped call)) (open_at is (stamped_key call)) i (rest call c.args.count basis) c.in_ok-taken.ensures.answer found;
       intervals = search rules;
       figures = search rules;
-      worked_half_hour = search rules;
+      half_hour = search rules;
       lines = search rules;
     }
 
@@ -141,24 +141,24 @@ returns c =
     let h = house_says c.args.house.now in
     let is = interval_rows c.args.intervals.now in
     let basis : IntervalSaid → Basis = λ i. basis_in h i (facility_rows c.args.facilities.now) (load_rows c.args.loads.now) (contract_rows c.args.contracts.now) (vesting_rows c.args.vestings.now) in
-    let i = interval_says c.in-ok-opened.opened.row in
-    let found : open_at is (stamped_key call) ≡ Some i = ap (open_at is) (sym c.in-ok-taken.ensures.worked_half_hour) ∙ c.in-ok-opened.ensures.found in
-    let stamp = c.in-ok-taken.ensures.stamp in
-    let s = c.in-ok-taken.taken.stamp in
-    let opened = c.in-ok-opened.opened.row in
+    let i = interval_says c.in_ok-opened.opened.row in
+    let found : open_at is (stamped_key call) ≡ Some i = ap (open_at is) (sym c.in_ok-taken.ensures.half_hour) ∙ c.in_ok-opened.ensures.found in
+    let stamp = c.in_ok-taken.ensures.stamp in
+    let s = c.in_ok-taken.taken.stamp in
+    let opened = c.in_ok-opened.opened.row in
     let moved = c.moved-row.result in
     let kept = c.moved-row.ensures.kept in
     record {
       answer =
-          c.in-ok-figures.ensures.answer
-          ∙ past_lines c.args.count (settling_checks (basis i)) c.in-ok-check-lines.ensures
-          ∙ past_stamp call i (check 11 (ltb c.args.count accounts) ∷ settling_checks (basis i)) (c.in-ok-check-stamp.ensures ∙ at_stamp call s stamp.0 stamp.1 i)
-          ∙ past_open (not (is_stamped call)) (open_at is (stamped_key call)) i (rest call c.args.count basis) c.in-ok-taken.ensures.answer found;
+          c.in_ok-figures.ensures.answer
+          ∙ past_lines c.args.count (settling_checks (basis i)) c.in_ok-check-lines.ensures
+          ∙ past_stamp call i (check 11 (ltb c.args.count accounts) ∷ settling_checks (basis i)) (c.in_ok-check-stamp.ensures ∙ at_stamp call s stamp.0 stamp.1 i)
+          ∙ past_open (not (is_stamped call)) (open_at is (stamped_key call)) i (rest call c.args.count basis) c.in_ok-taken.ensures.answer found;
       intervals =
-          c.in-ok-opened.ensures.writes moved (ap key_of kept.0 ∙ lookup-carries interval_named is _ i c.in-ok-opened.ensures.found)
+          c.in_ok-opened.ensures.writes moved (ap key_of kept.0 ∙ lookup-carries interval_named is _ i c.in_ok-opened.ensures.found)
           ∙ ap (λ j. put_row interval_named is (Some j)) (moved-is call.days call.minute s stamp.0 stamp.1 opened moved Preliminary kept.0 kept.1 kept.2 kept.3 c.moved-row.ensures.phase c.moved-row.ensures.last)
           ∙ ap (λ o. put_row interval_named is (option_map (moved_to Preliminary call.days call.minute) o)) (sym found);
-      figures = λ j e. let same : i ≡ j = some_same i j (sym found ∙ e) in subst (λ k. FiguresAre (basis k) c.in-ok-figures.figures) same c.in-ok-figures.ensures.figures;
-      worked_half_hour = c.in-ok-taken.ensures.worked_half_hour;
-      lines = enough c.args.count c.in-ok-check-lines.ensures;
+      figures = λ j e. let same : i ≡ j = some_same i j (sym found ∙ e) in subst (λ k. FiguresAre (basis k) c.in_ok-figures.figures) same c.in_ok-figures.ensures.figures;
+      half_hour = c.in_ok-taken.ensures.half_hour;
+      lines = enough c.args.count c.in_ok-check-lines.ensures;
     }

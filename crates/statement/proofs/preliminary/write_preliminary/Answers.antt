@@ -5,13 +5,13 @@ use Rattle.statement.proofs.preliminary.write_preliminary.Goals as goal
 
 pub returns : goal.returns
 returns c =
-    let plan = c.in-ok-plan.ensures in
+    let plan = c.in_ok-plan.ensures in
     record {
       answer = plan.answer;
       intervals = ap interval_rows c.write-interval.ensures ∙ plan.intervals;
       lines = record {
-        written = λ i e. begin_alike _ c.in-ok-plan.plan.figures.lines c.write-lines.new.lines c.write-lines.ensures.first (plan.figures i e).lines;
+        written = λ i e. begin_alike _ c.in_ok-plan.plan.figures.lines c.write-lines.new.lines c.write-lines.ensures.first (plan.figures i e).lines;
         beyond = c.write-lines.ensures.beyond;
       };
-      statement = record { house = c.number.ensures; worked_half_hour = plan.worked_half_hour };
+      statement = record { house = c.number.ensures; half_hour = plan.half_hour };
     }

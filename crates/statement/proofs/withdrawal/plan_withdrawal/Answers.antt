@@ -17,15 +17,15 @@ pub returns : goal.returns
 returns c =
     let is = interval_rows c.args.intervals.now in
     let s = c.args.statement.now in
-    let opened = c.in-ok-opened.opened.row in
+    let opened = c.in_ok-opened.opened.row in
     let i = interval_says opened in
-    let found : open_at is (key_of s.half_hour) ≡ Some i = c.in-ok-opened.ensures.found in
+    let found : open_at is (key_of s.half_hour) ≡ Some i = c.in_ok-opened.ensures.found in
     let moved = c.moved-row.result in
     let kept = c.moved-row.ensures.kept in
     record {
-      answer = c.in-ok-opened.ensures.answer;
+      answer = c.in_ok-opened.ensures.answer;
       intervals =
-          c.in-ok-opened.ensures.writes moved (ap key_of kept.0 ∙ lookup-carries interval_named is (key_of s.half_hour) i found)
+          c.in_ok-opened.ensures.writes moved (ap key_of kept.0 ∙ lookup-carries interval_named is (key_of s.half_hour) i found)
           ∙ ap (λ j. put_row interval_named is (Some j)) (again_is opened moved kept.0 kept.1 kept.2 kept.3 c.moved-row.ensures.phase c.moved-row.ensures.last)
           ∙ ap (λ o. put_row interval_named is (option_map reading_again o)) (sym found);
     }

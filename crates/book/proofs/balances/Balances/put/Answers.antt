@@ -7,8 +7,8 @@ use Rattle.book.specs.Meaning.{balance_limit}
 use Rattle.book.proofs.Cells.{each_set}
 use Rattle.book.proofs.balances.Balances.put.Goals as goal
 
-pub offset-bounds-self-index : goal.offset-bounds-self-index
-offset-bounds-self-index c = search rules
+pub offset_bounds-self-index : goal.offset_bounds-self-index
+offset_bounds-self-index c = search rules
 
 pub bounds-self-index : goal.bounds-self-index
 bounds-self-index c = search rules

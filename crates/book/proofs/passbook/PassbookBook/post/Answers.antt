@@ -11,10 +11,10 @@ pub invariant-of-self : goal.invariant-of-self
 invariant-of-self c =
     let ls = c.args.self.now.lines.now in
     let a = c.args.account in
-    let shown : c.in-ok-balance.balance.0 ≡ balance_in ls a = c.in-ok-balance.ensures.value in
-    let known : Account a = shown_account (balance_in ls) a c.in-ok-balance.balance c.in-ok-balance.ensures in
+    let shown : c.in_ok-balance.balance.0 ≡ balance_in ls a = c.in_ok-balance.ensures.value in
+    let known : Account a = shown_account (balance_in ls) a c.in_ok-balance.balance c.in_ok-balance.ensures in
     let old = balance_around ls a in
-    let sum = c.in-ok-after.ensures in
+    let sum = c.in_ok-after.ensures in
     (known, (omega (arith, ints, shown, old, sum.0, sum.1), (sum.1, tt)))
 
 pub invariant-of-self-2 : goal.invariant-of-self-2
@@ -27,10 +27,10 @@ returns c =
     let s = c.args.self.now in
     let ls = s.lines.now in
     let a = c.args.account in
-    let shown : c.in-ok-balance.balance.0 ≡ balance_in ls a = c.in-ok-balance.ensures.value in
-    let known : Account a = shown_account (balance_in ls) a c.in-ok-balance.balance c.in-ok-balance.ensures in
-    let sum : c.in-ok-after.after.0 ≡ balance_in ls a +ℤ c.args.amount.0 = omega (arith, ints, shown, c.in-ok-after.ensures.0) in
-    let fine : Around balance_limit (balance_in ls a +ℤ c.args.amount.0) = omega (arith, ints, sum, c.in-ok-after.ensures.1) in
+    let shown : c.in_ok-balance.balance.0 ≡ balance_in ls a = c.in_ok-balance.ensures.value in
+    let known : Account a = shown_account (balance_in ls) a c.in_ok-balance.balance c.in_ok-balance.ensures in
+    let sum : c.in_ok-after.after.0 ≡ balance_in ls a +ℤ c.args.amount.0 = omega (arith, ints, shown, c.in_ok-after.ensures.0) in
+    let fine : Around balance_limit (balance_in ls a +ℤ c.args.amount.0) = omega (arith, ints, sum, c.in_ok-after.ensures.1) in
     let free : 0 < free_lines ls = omega (arith, s.counted, c.if-self.false) in
     record {
       meaning = record {

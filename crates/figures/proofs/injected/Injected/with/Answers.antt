@@ -7,14 +7,14 @@ use Rattle.formulas.proofs.Bounds.{product_around}
 use Rattle.figures.proofs.Gathered.{grown_own, part_around}
 use Rattle.figures.proofs.injected.Injected.with.Goals as goal
 
-pub overflow-add-result-4 : goal.overflow-add-result-4
-overflow-add-result-4 c = omega (arith, ints)
+pub overflow_add-result-4 : goal.overflow_add-result-4
+overflow_add-result-4 c = omega (arith, ints)
 
-pub overflow-add-result-5 : goal.overflow-add-result-5
-overflow-add-result-5 c = omega (arith, ints, product_around 1000000 10000000 c.args.f.now.mep.0 c.args.f.now.ieq.0 c.args.f.now.mep_ok c.args.f.now.ieq_ok)
+pub overflow_add-result-5 : goal.overflow_add-result-5
+overflow_add-result-5 c = omega (arith, ints, product_around 1000000 10000000 c.args.f.now.mep.0 c.args.f.now.ieq.0 c.args.f.now.mep_ok c.args.f.now.ieq_ok)
 
-pub overflow-add-result-6 : goal.overflow-add-result-6
-overflow-add-result-6 c =
+pub overflow_add-result-6 : goal.overflow_add-result-6
+overflow_add-result-6 c =
     let part : Around 10000000 c.positive-injected.result.0 = rw c.positive-injected.ensures (part_around 10000000 _ c.args.f.now.ieq_ok) in
     omega (arith, ints, product_around 1000000 10000000 c.args.f.now.mep.0 c.positive-injected.result.0 c.args.f.now.mep_ok part)
 

@@ -29,30 +29,30 @@ ten call is = check 10 (not (is_some (place interval_named is (key call))))
 given_key : (i : Interval) (call : IntervalCall) → interval_says i ≡ interval_given call → carried i ≡ key call
 given_key i call e = ap (λ r. r.key) e
 
-pub returns-in-err-interval : goal.returns-in-err-interval
-returns-in-err-interval c =
+pub returns-in_err-interval : goal.returns-in_err-interval
+returns-in_err-interval c =
     let call = c.args.call.now in
     let h = house_says c.args.self.now in
     let is = interval_rows c.args.intervals.now in
     record {
       answer =
-          handed_on c.from-residual.result c.in-err-interval.field-0.0 c.from-residual.ensures.1
-          ∙ stops c.in-err-interval.field-0.0 (check 1 (not (is_interval call)) ∷ []) (three call h.latest ∷ ten call is ∷ []) c.in-err-interval.ensures.answer;
+          handed_on c.from_residual.result c.in_err-interval.field-0.0 c.from_residual.ensures.1
+          ∙ stops c.in_err-interval.field-0.0 (check 1 (not (is_interval call)) ∷ []) (three call h.latest ∷ ten call is ∷ []) c.in_err-interval.ensures.answer;
       house = search rules;
       intervals = search rules;
     }
 
-pub returns-in-err-check-after : goal.returns-in-err-check-after
-returns-in-err-check-after c =
+pub returns-in_err-check-after : goal.returns-in_err-check-after
+returns-in_err-check-after c =
     let call = c.args.call.now in
     let h = house_says c.args.self.now in
     let is = interval_rows c.args.intervals.now in
-    let k = given_key c.in-ok-interval.interval call c.in-ok-interval.ensures.row in
+    let k = given_key c.in_ok-interval.interval call c.in_ok-interval.ensures.row in
     record {
       answer =
-          handed_on c.from-residual-in-err-check-after.result c.in-err-check-after.field-0.0 c.from-residual-in-err-check-after.ensures.1
-          ∙ stops c.in-err-check-after.field-0.0 (three call h.latest ∷ []) (ten call is ∷ []) (c.in-err-check-after.ensures ∙ ap (λ q. first_met (check 3 (not_after q h.latest) ∷ [])) k)
-          ∙ passes (check 1 (not (is_interval call)) ∷ []) (three call h.latest ∷ ten call is ∷ []) (lit< tt, tt) c.in-ok-interval.ensures.answer;
+          handed_on c.from_residual-in_err-check-after.result c.in_err-check-after.field-0.0 c.from_residual-in_err-check-after.ensures.1
+          ∙ stops c.in_err-check-after.field-0.0 (three call h.latest ∷ []) (ten call is ∷ []) (c.in_err-check-after.ensures ∙ ap (λ q. first_met (check 3 (not_after q h.latest) ∷ [])) k)
+          ∙ passes (check 1 (not (is_interval call)) ∷ []) (three call h.latest ∷ ten call is ∷ []) (lit< tt, tt) c.in_ok-interval.ensures.answer;
       house = search rules;
       intervals = search rules;
     }
@@ -66,15 +66,15 @@ last_check call latest rows i n k one after h =
     ∙ passes (three call latest ∷ []) (ten call (interval_rows rows) ∷ []) (lit< tt, tt) (after ∙ ap (λ q. first_met (check 3 (not_after q latest) ∷ [])) k)
     ∙ passes (check 1 (not (is_interval call)) ∷ []) (three call latest ∷ ten call (interval_rows rows) ∷ []) (lit< tt, tt) one
 
-pub returns-in-err-put-row : goal.returns-in-err-put-row
-returns-in-err-put-row c =
+pub returns-in_err-put-row : goal.returns-in_err-put-row
+returns-in_err-put-row c =
     let call = c.args.call.now in
     let h = house_says c.args.self.now in
-    let k = given_key c.in-ok-interval.interval call c.in-ok-interval.ensures.row in
+    let k = given_key c.in_ok-interval.interval call c.in_ok-interval.ensures.row in
     record {
       answer =
-          handed_on c.from-residual-in-err-put-row.result c.in-err-put-row.field-0.0 c.from-residual-in-err-put-row.ensures.1
-          ∙ last_check call h.latest c.args.intervals.now c.in-ok-interval.interval _ k c.in-ok-interval.ensures.answer c.in-ok-check-after.ensures c.in-err-put-row.ensures.answer;
+          handed_on c.from_residual-in_err-put-row.result c.in_err-put-row.field-0.0 c.from_residual-in_err-put-row.ensures.1
+          ∙ last_check call h.latest c.args.intervals.now c.in_ok-interval.interval _ k c.in_ok-interval.ensures.answer c.in_ok-check-after.ensures c.in_err-put-row.ensures.answer;
       house = search rules;
       intervals = search rules;
     }
@@ -84,11 +84,11 @@ returns c =
     let call = c.args.call.now in
     let h = house_says c.args.self.now in
     let rows = c.args.intervals.now in
-    let i = c.in-ok-interval.interval in
-    let given = c.in-ok-interval.ensures.row in
+    let i = c.in_ok-interval.interval in
+    let given = c.in_ok-interval.ensures.row in
     let k = given_key i call given in
     record {
-      answer = last_check call h.latest rows i _ k c.in-ok-interval.ensures.answer c.in-ok-check-after.ensures c.in-ok-put-row.ensures.answer;
+      answer = last_check call h.latest rows i _ k c.in_ok-interval.ensures.answer c.in_ok-check-after.ensures c.in_ok-put-row.ensures.answer;
       house = ap {B = HouseState} (λ q. record { number = h.number; participants = h.participants; counterparty = h.counterparty; operator = h.operator; latest = Some q; pending = h.pending }) k;
-      intervals = ap interval_rows c.in-ok-put-row.ensures.rows ∙ placed-mapped carried interval_named interval_says (λ r. refl) rows i ∙ ap (placed interval_named (interval_rows rows)) given;
+      intervals = ap interval_rows c.in_ok-put-row.ensures.rows ∙ placed-mapped carried interval_named interval_says (λ r. refl) rows i ∙ ap (placed interval_named (interval_rows rows)) given;
     }

@@ -32,57 +32,57 @@ account_in (a ∷ more) = a
 parties_given : (r : VestingRow) (call : VestingCall) (k : ℕ) → vesting_says r ≡ vesting_given call → first_met (check 2 (eqb r.key.account k) ∷ []) ≡ first_met (check 2 (eqb (nat_abs call.account) k) ∷ [])
 parties_given r call k e = ap (λ s. first_met (check 2 (eqb (account_in s.key.more) k) ∷ [])) e
 
-pub returns-in-err-row : goal.returns-in-err-row
-returns-in-err-row c =
+pub returns-in_err-row : goal.returns-in_err-row
+returns-in_err-row c =
     let call = c.args.call.now in
     let o = open_at (interval_rows c.args.intervals.now) (half_hour_key call.day call.interval) in
     record {
       answer =
-          handed_on c.from-residual.result c.in-err-row.field-0.0 c.from-residual.ensures.1
-          ∙ refused-range (not (is_vesting call)) (eqb (nat_abs call.account) c.args.self.now.opening.counterparty) o (ten call (vesting_rows c.args.vestings.now)) c.in-err-row.field-0.0 c.in-err-row.ensures.answer;
+          handed_on c.from_residual.result c.in_err-row.field-0.0 c.from_residual.ensures.1
+          ∙ refused-range (not (is_vesting call)) (eqb (nat_abs call.account) c.args.self.now.opening.counterparty) o (ten call (vesting_rows c.args.vestings.now)) c.in_err-row.field-0.0 c.in_err-row.ensures.answer;
       vestings = search rules;
     }
 
-pub returns-in-err-check-apart : goal.returns-in-err-check-apart
-returns-in-err-check-apart c =
+pub returns-in_err-check-apart : goal.returns-in_err-check-apart
+returns-in_err-check-apart c =
     let call = c.args.call.now in
     let o = open_at (interval_rows c.args.intervals.now) (half_hour_key call.day call.interval) in
     record {
       answer =
-          handed_on c.from-residual-in-err-check-apart.result c.in-err-check-apart.field-0.0 c.from-residual-in-err-check-apart.ensures.1
-          ∙ refused-party (not (is_vesting call)) (eqb (nat_abs call.account) c.args.self.now.opening.counterparty) o (ten call (vesting_rows c.args.vestings.now)) c.in-err-check-apart.field-0.0 c.in-ok-row.ensures.answer
-          (c.in-err-check-apart.ensures ∙ parties_given c.in-ok-row.row call c.args.self.now.opening.counterparty c.in-ok-row.ensures.row);
+          handed_on c.from_residual-in_err-check-apart.result c.in_err-check-apart.field-0.0 c.from_residual-in_err-check-apart.ensures.1
+          ∙ refused-party (not (is_vesting call)) (eqb (nat_abs call.account) c.args.self.now.opening.counterparty) o (ten call (vesting_rows c.args.vestings.now)) c.in_err-check-apart.field-0.0 c.in_ok-row.ensures.answer
+          (c.in_err-check-apart.ensures ∙ parties_given c.in_ok-row.row call c.args.self.now.opening.counterparty c.in_ok-row.ensures.row);
       vestings = search rules;
     }
 
-pub returns-in-err-check-reading : goal.returns-in-err-check-reading
-returns-in-err-check-reading c =
+pub returns-in_err-check-reading : goal.returns-in_err-check-reading
+returns-in_err-check-reading c =
     let call = c.args.call.now in
     let is = interval_rows c.args.intervals.now in
-    let given = c.in-ok-row.ensures.row in
+    let given = c.in_ok-row.ensures.row in
     record {
       answer =
-          handed_on c.from-residual-in-err-check-reading.result c.in-err-check-reading.field-0.0 c.from-residual-in-err-check-reading.ensures.1
-          ∙ refused-phase (not (is_vesting call)) (eqb (nat_abs call.account) c.args.self.now.opening.counterparty) (open_at is (half_hour_key call.day call.interval)) (ten call (vesting_rows c.args.vestings.now)) c.in-err-check-reading.field-0.0 c.in-ok-row.ensures.answer
-          (c.in-ok-check-apart.ensures ∙ parties_given c.in-ok-row.row call c.args.self.now.opening.counterparty given)
-          (c.in-err-check-reading.ensures ∙ ap (λ k. first_met (if_open (open_at is k) reading_phase)) (half_hour_given c.in-ok-row.row call given));
+          handed_on c.from_residual-in_err-check-reading.result c.in_err-check-reading.field-0.0 c.from_residual-in_err-check-reading.ensures.1
+          ∙ refused-phase (not (is_vesting call)) (eqb (nat_abs call.account) c.args.self.now.opening.counterparty) (open_at is (half_hour_key call.day call.interval)) (ten call (vesting_rows c.args.vestings.now)) c.in_err-check-reading.field-0.0 c.in_ok-row.ensures.answer
+          (c.in_ok-check-apart.ensures ∙ parties_given c.in_ok-row.row call c.args.self.now.opening.counterparty given)
+          (c.in_err-check-reading.ensures ∙ ap (λ k. first_met (if_open (open_at is k) reading_phase)) (half_hour_given c.in_ok-row.row call given));
       vestings = search rules;
     }
 
-pub returns-in-err-put-row : goal.returns-in-err-put-row
-returns-in-err-put-row c =
+pub returns-in_err-put-row : goal.returns-in_err-put-row
+returns-in_err-put-row c =
     let call = c.args.call.now in
     let is = interval_rows c.args.intervals.now in
     let rows = c.args.vestings.now in
-    let r = c.in-ok-row.row in
-    let given = c.in-ok-row.ensures.row in
+    let r = c.in_ok-row.row in
+    let given = c.in_ok-row.ensures.row in
     record {
       answer =
-          handed_on c.from-residual-in-err-put-row.result c.in-err-put-row.field-0.0 c.from-residual-in-err-put-row.ensures.1
-          ∙ past-phase (not (is_vesting call)) (eqb (nat_abs call.account) c.args.self.now.opening.counterparty) (open_at is (half_hour_key call.day call.interval)) (ten call (vesting_rows rows)) _ c.in-ok-row.ensures.answer
-          (c.in-ok-check-apart.ensures ∙ parties_given r call c.args.self.now.opening.counterparty given)
-          (c.in-ok-check-reading.ensures ∙ ap (λ k. first_met (if_open (open_at is k) reading_phase)) (half_hour_given r call given))
-          (c.in-err-put-row.ensures.answer ∙ place_check carried vesting_named vesting_says (λ x. refl) rows (carried r) (vesting_given call).key (ap (λ s. s.key) given));
+          handed_on c.from_residual-in_err-put-row.result c.in_err-put-row.field-0.0 c.from_residual-in_err-put-row.ensures.1
+          ∙ past-phase (not (is_vesting call)) (eqb (nat_abs call.account) c.args.self.now.opening.counterparty) (open_at is (half_hour_key call.day call.interval)) (ten call (vesting_rows rows)) _ c.in_ok-row.ensures.answer
+          (c.in_ok-check-apart.ensures ∙ parties_given r call c.args.self.now.opening.counterparty given)
+          (c.in_ok-check-reading.ensures ∙ ap (λ k. first_met (if_open (open_at is k) reading_phase)) (half_hour_given r call given))
+          (c.in_err-put-row.ensures.answer ∙ place_check carried vesting_named vesting_says (λ x. refl) rows (carried r) (vesting_given call).key (ap (λ s. s.key) given));
       vestings = search rules;
     }
 
@@ -91,13 +91,13 @@ returns c =
     let call = c.args.call.now in
     let is = interval_rows c.args.intervals.now in
     let rows = c.args.vestings.now in
-    let r = c.in-ok-row.row in
-    let given = c.in-ok-row.ensures.row in
+    let r = c.in_ok-row.row in
+    let given = c.in_ok-row.ensures.row in
     record {
       answer =
-          past-phase (not (is_vesting call)) (eqb (nat_abs call.account) c.args.self.now.opening.counterparty) (open_at is (half_hour_key call.day call.interval)) (ten call (vesting_rows rows)) _ c.in-ok-row.ensures.answer
-          (c.in-ok-check-apart.ensures ∙ parties_given r call c.args.self.now.opening.counterparty given)
-          (c.in-ok-check-reading.ensures ∙ ap (λ k. first_met (if_open (open_at is k) reading_phase)) (half_hour_given r call given))
-          (c.in-ok-put-row.ensures.answer ∙ place_check carried vesting_named vesting_says (λ x. refl) rows (carried r) (vesting_given call).key (ap (λ s. s.key) given));
-      vestings = ap vesting_rows c.in-ok-put-row.ensures.rows ∙ placed-mapped carried vesting_named vesting_says (λ x. refl) rows r ∙ ap (placed vesting_named (vesting_rows rows)) given;
+          past-phase (not (is_vesting call)) (eqb (nat_abs call.account) c.args.self.now.opening.counterparty) (open_at is (half_hour_key call.day call.interval)) (ten call (vesting_rows rows)) _ c.in_ok-row.ensures.answer
+          (c.in_ok-check-apart.ensures ∙ parties_given r call c.args.self.now.opening.counterparty given)
+          (c.in_ok-check-reading.ensures ∙ ap (λ k. first_met (if_open (open_at is k) reading_phase)) (half_hour_given r call given))
+          (c.in_ok-put-row.ensures.answer ∙ place_check carried vesting_named vesting_says (λ x. refl) rows (carried r) (vesting_given call).key (ap (λ s. s.key) given));
+      vestings = ap vesting_rows c.in_ok-put-row.ensures.rows ∙ placed-mapped carried vesting_named vesting_says (λ x. refl) rows r ∙ ap (placed vesting_named (vesting_rows rows)) given;
     }

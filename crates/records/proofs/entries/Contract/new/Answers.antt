@@ -6,26 +6,26 @@ use Rattle.units.specs.Ranges.{account_range, fraction_range, quantity_range}
 use Rattle.records.proofs.Told.{told}
 use Rattle.records.proofs.entries.Contract.new.Goals as goal
 
-pub returns-in-err-bwf : goal.returns-in-err-bwf
-returns-in-err-bwf c =
-    let p = err_from_is_err_and c.from-residual-in-err-bwf.result c.from-residual-in-err-bwf.ensures.1 in
-    record { made = search rules; accepts = ap is_ok p.1 ∙ sym (and_left _ _ (and_right _ _ (told fraction_range c.args.bwf _ c.ranges.bwf c.in-err-bwf.ensures.accepts))) }
+pub returns-in_err-bwf : goal.returns-in_err-bwf
+returns-in_err-bwf c =
+    let p = err_from_is_err_and c.from_residual-in_err-bwf.result c.from_residual-in_err-bwf.ensures.1 in
+    record { made = search rules; accepts = ap is_ok p.1 ∙ sym (and_left _ _ (and_right _ _ (told fraction_range c.args.bwf _ c.ranges.bwf c.in_err-bwf.ensures.accepts))) }
 
-pub returns-in-err-bif : goal.returns-in-err-bif
-returns-in-err-bif c =
-    let p = err_from_is_err_and c.from-residual-in-err-bif.result c.from-residual-in-err-bif.ensures.1 in
-    record { made = search rules; accepts = ap is_ok p.1 ∙ sym (and_right _ _ (told fraction_range c.args.bif _ c.ranges.bif c.in-err-bif.ensures.accepts)) }
+pub returns-in_err-bif : goal.returns-in_err-bif
+returns-in_err-bif c =
+    let p = err_from_is_err_and c.from_residual-in_err-bif.result c.from_residual-in_err-bif.ensures.1 in
+    record { made = search rules; accepts = ap is_ok p.1 ∙ sym (and_right _ _ (told fraction_range c.args.bif _ c.ranges.bif c.in_err-bif.ensures.accepts)) }
 
 pub invariant-of-result : goal.invariant-of-result
 invariant-of-result c = (
-  omega (arith, ints, c.in-ok-seller.ensures.made.1),
+  omega (arith, ints, c.in_ok-seller.ensures.made.1),
   (
-    omega (arith, ints, c.in-ok-buyer.ensures.made.1),
+    omega (arith, ints, c.in_ok-buyer.ensures.made.1),
     (
-      omega (arith, ints, c.in-ok-take.ensures.made.1),
+      omega (arith, ints, c.in_ok-take.ensures.made.1),
       (
-        omega (arith, ints, c.in-ok-bwf.ensures.made.1),
-        (omega (arith, ints, c.in-ok-bif.ensures.made.1), tt),
+        omega (arith, ints, c.in_ok-bwf.ensures.made.1),
+        (omega (arith, ints, c.in_ok-bif.ensures.made.1), tt),
       ),
     ),
   ),
@@ -34,18 +34,18 @@ invariant-of-result c = (
 pub returns : goal.returns
 returns c = record {
   made = (
-    omega (arith, ints, c.in-ok-seller.ensures.made),
-    omega (arith, ints, c.in-ok-buyer.ensures.made),
-    omega (arith, ints, c.in-ok-take.ensures.made),
-    omega (arith, ints, c.in-ok-bwf.ensures.made),
-    omega (arith, ints, c.in-ok-bif.ensures.made),
+    omega (arith, ints, c.in_ok-seller.ensures.made),
+    omega (arith, ints, c.in_ok-buyer.ensures.made),
+    omega (arith, ints, c.in_ok-take.ensures.made),
+    omega (arith, ints, c.in_ok-bwf.ensures.made),
+    omega (arith, ints, c.in_ok-bif.ensures.made),
   );
   accepts =
       sym (and_from _ _
       (and_from _ _
       (and_from _ _
-      (and_from _ _ (told account_range c.args.seller _ c.ranges.seller c.in-ok-seller.ensures.accepts) (told account_range c.args.buyer _ c.ranges.buyer c.in-ok-buyer.ensures.accepts))
-      (told quantity_range c.args.baq _ c.ranges.baq c.in-ok-take.ensures.accepts))
-      (told fraction_range c.args.bwf _ c.ranges.bwf c.in-ok-bwf.ensures.accepts))
-      (told fraction_range c.args.bif _ c.ranges.bif c.in-ok-bif.ensures.accepts));
+      (and_from _ _ (told account_range c.args.seller _ c.ranges.seller c.in_ok-seller.ensures.accepts) (told account_range c.args.buyer _ c.ranges.buyer c.in_ok-buyer.ensures.accepts))
+      (told quantity_range c.args.baq _ c.ranges.baq c.in_ok-take.ensures.accepts))
+      (told fraction_range c.args.bwf _ c.ranges.bwf c.in_ok-bwf.ensures.accepts))
+      (told fraction_range c.args.bif _ c.ranges.bif c.in_ok-bif.ensures.accepts));
 }

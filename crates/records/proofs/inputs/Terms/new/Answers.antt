@@ -6,20 +6,20 @@ use Rattle.units.specs.Ranges.{account_range, price_range, rate_range}
 use Rattle.records.proofs.Told.{told}
 use Rattle.records.proofs.inputs.Terms.new.Goals as goal
 
-pub returns-in-err-operator : goal.returns-in-err-operator
-returns-in-err-operator c =
-    let p = err_from_is_err_and c.from-residual-in-err-operator.result c.from-residual-in-err-operator.ensures.1 in
-    record { made = search rules; accepts = ap is_ok p.1 ∙ sym (and_right _ _ (told account_range c.args.operator _ c.ranges.operator c.in-err-operator.ensures.accepts)) }
+pub returns-in_err-operator : goal.returns-in_err-operator
+returns-in_err-operator c =
+    let p = err_from_is_err_and c.from_residual-in_err-operator.result c.from_residual-in_err-operator.ensures.1 in
+    record { made = search rules; accepts = ap is_ok p.1 ∙ sym (and_right _ _ (told account_range c.args.operator _ c.ranges.operator c.in_err-operator.ensures.accepts)) }
 
 pub invariant-of-result : goal.invariant-of-result
 invariant-of-result c = (
-  omega (arith, ints, c.in-ok-take.ensures.made.1),
+  omega (arith, ints, c.in_ok-take.ensures.made.1),
   (
-    omega (arith, ints, c.in-ok-take-2.ensures.made.1),
+    omega (arith, ints, c.in_ok-take-2.ensures.made.1),
     (
-      omega (arith, ints, c.in-ok-counterparty.ensures.made.1),
+      omega (arith, ints, c.in_ok-counterparty.ensures.made.1),
       (
-        omega (arith, ints, c.in-ok-operator.ensures.made.1),
+        omega (arith, ints, c.in_ok-operator.ensures.made.1),
         (omega (arith, ints), tt),
       ),
     ),
@@ -29,15 +29,15 @@ invariant-of-result c = (
 pub returns : goal.returns
 returns c = record {
   made = (
-    omega (arith, ints, c.in-ok-take.ensures.made),
-    omega (arith, ints, c.in-ok-take-2.ensures.made),
-    omega (arith, ints, c.in-ok-counterparty.ensures.made),
-    omega (arith, ints, c.in-ok-operator.ensures.made),
+    omega (arith, ints, c.in_ok-take.ensures.made),
+    omega (arith, ints, c.in_ok-take-2.ensures.made),
+    omega (arith, ints, c.in_ok-counterparty.ensures.made),
+    omega (arith, ints, c.in_ok-operator.ensures.made),
     omega (arith, ints),
   );
   accepts =
       sym (and_from _ _
-      (and_from _ _ (and_from _ _ (told price_range c.args.usep _ c.ranges.usep c.in-ok-take.ensures.accepts) (told rate_range c.args.rate _ c.ranges.rate c.in-ok-take-2.ensures.accepts))
-      (told account_range c.args.counterparty _ c.ranges.counterparty c.in-ok-counterparty.ensures.accepts))
-      (told account_range c.args.operator _ c.ranges.operator c.in-ok-operator.ensures.accepts));
+      (and_from _ _ (and_from _ _ (told price_range c.args.usep _ c.ranges.usep c.in_ok-take.ensures.accepts) (told rate_range c.args.rate _ c.ranges.rate c.in_ok-take-2.ensures.accepts))
+      (told account_range c.args.counterparty _ c.ranges.counterparty c.in_ok-counterparty.ensures.accepts))
+      (told account_range c.args.operator _ c.ranges.operator c.in_ok-operator.ensures.accepts));
 }

@@ -7,6 +7,6 @@ pub returns : goal.returns
 returns g c =
     record {
       rows = c.vacate-in.ensures;
-      keys = λ q. ap (λ xs. lookup g.R.Row.carried xs q) c.vacate-in.ensures ∙ vacated-keys g.R.Row.carried c.args.self.now.rows.now c.args.worked_half_hour.day c.args.worked_half_hour.interval q;
+      keys = λ q. ap (λ xs. lookup g.R.Row.carried xs q) c.vacate-in.ensures ∙ vacated-keys g.R.Row.carried c.args.self.now.rows.now c.args.half_hour.day c.args.half_hour.interval q;
       lender = refl {a = c.args.self.now.rows.ghost_name};
     }

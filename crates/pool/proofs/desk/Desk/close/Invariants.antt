@@ -1,5 +1,0 @@
-use Rattle.std.proofs.Common.{vec_len}
-use Rattle.pool.proofs.desk.Desk.close.Given as goal
-
-abbrev pub decreases-loop-house : goal.decreases-loop-house
-decreases-loop-house l = vec_len l.statements
