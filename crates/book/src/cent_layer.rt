@@ -21,7 +21,7 @@ impl<B: Book> CentLayer<B> {
     pub fn over(below: B) -> CentLayer<B>
         ensures zeros { Zeros (at_account result.exact.cells) }
         ensures kept { result.below ≡ below }
-        ensures in_cents { Zeros (held below) → InCents (held result.below) (at_account result.exact.cells) }
+        ensures in_cents { Zeros (B.held below) → InCents (B.held result.below) (at_account result.exact.cells) }
     {
         CentLayer {
             exact: Balances::zero(),
@@ -31,7 +31,7 @@ impl<B: Book> CentLayer<B> {
 
     // What the book below holds for an account.
     pub fn payable(&self, account: u16) -> Result<Money, Refusal>
-        ensures { Shown (held self.now.below) account result }
+        ensures { Shown (B.held self.now.below) account result }
     {
         self.below.balance(account)
     }
@@ -54,10 +54,10 @@ fn cut_to_cents(balance: Money) -> Money
 
 // Has a book hold that many cents for an account; where it already does, nothing is posted.
 fn hold_cents<B: Book>(book: &mut B, account: u16, cents: Money) -> Result<(), Refusal>
-    requires { (Account account) × ((Around balance_limit cents.0) × (0 < room book.old)) }
-    ensures meaning { MatchResult result (λ _. Raised (held book.old) (room book.old) account (cents.0 -ℤ held book.old account) (held book.new) (room book.new)) (λ _. ⊥) }
-    ensures idle { held book.old account ≡ cents.0 → book.new ≡ book.old }
-    ensures conditions { (i : ℕ) → holds i book.old → holds i book.new }
+    requires { (Account account) × ((Around balance_limit cents.0) × (0 < B.room book.old)) }
+    ensures meaning { MatchResult result (λ _. Raised (B.held book.old) (B.room book.old) account (cents.0 -ℤ B.held book.old account) (B.held book.new) (B.room book.new)) (λ _. ⊥) }
+    ensures idle { B.held book.old account ≡ cents.0 → book.new ≡ book.old }
+    ensures conditions { (i : ℕ) → B.holds i book.old → B.holds i book.new }
 {
     let payable = book.balance(account)?;
     if payable.0 != cents.0 {

@@ -12,7 +12,7 @@ use units::{ACCOUNTS, Money, Refusal};
 
 // Whether one amount can be posted to each account, by rising account, with no posting for a zero.
 pub fn check_statement<B: Book>(book: &B, amounts: &[Money; ACCOUNTS]) -> Result<(), Refusal>
-    ensures { answer_number result ≡ first_met (statement_checks (held book.now) (room book.now) (amount_of amounts.now)) }
+    ensures { answer_number result ≡ first_met (statement_checks (B.held book.now) (B.room book.now) (amount_of amounts.now)) }
 {
     let mut needed: usize = 0;
     for (index, amount) in amounts.iter().enumerate() {
@@ -31,10 +31,10 @@ pub fn check_statement<B: Book>(book: &B, amounts: &[Money; ACCOUNTS]) -> Result
 // One account's turn: its amount is posted unless it is zero.
 fn post_turn<B: Book>(book: &mut B, account: u16, amount: Money)
     requires account { Account account }
-    requires around { Around balance_limit (held book.old account +ℤ amount.0) }
-    requires book_nonzero { (amount.0 ≢ pos 0) → 0 < room book.old }
-    ensures turn { Turn held room takes account amount.0 book.old book.new }
-    ensures conditions { (i : ℕ) → holds i book.old → holds i book.new }
+    requires around { Around balance_limit (B.held book.old account +ℤ amount.0) }
+    requires book_nonzero { (amount.0 ≢ pos 0) → 0 < B.room book.old }
+    ensures turn { Turn B.held B.room B.takes account amount.0 book.old book.new }
+    ensures conditions { (i : ℕ) → B.holds i book.old → B.holds i book.new }
 {
     if amount.0 != 0 {
         let _ = book.post(account, amount);
@@ -43,10 +43,10 @@ fn post_turn<B: Book>(book: &mut B, account: u16, amount: Money)
 
 // Posts one amount to each account, by rising account, with no posting for a zero.
 fn post_each<B: Book>(book: &mut B, amounts: &[Money; ACCOUNTS])
-    requires by_index { (a : ℕ) → Account a → Around balance_limit (held book.old a +ℤ amount_of amounts.now a) }
-    requires amounts_bound { postings (amount_of amounts.now) ≤ room book.old }
-    ensures turns { InTurn held room takes (amount_of amounts.now) accounts book.old book.new }
-    ensures conditions { (i : ℕ) → holds i book.old → holds i book.new }
+    requires by_index { (a : ℕ) → Account a → Around balance_limit (B.held book.old a +ℤ amount_of amounts.now a) }
+    requires amounts_bound { postings (amount_of amounts.now) ≤ B.room book.old }
+    ensures turns { InTurn B.held B.room B.takes (amount_of amounts.now) accounts book.old book.new }
+    ensures conditions { (i : ℕ) → B.holds i book.old → B.holds i book.new }
 {
     for (index, amount) in amounts.iter().enumerate() {
         post_turn(book, index as u16 + 1, *amount);
@@ -55,11 +55,11 @@ fn post_each<B: Book>(book: &mut B, amounts: &[Money; ACCOUNTS])
 
 // Posts a whole statement, or refuses it whole.
 pub fn post_statement<B: Book>(book: &mut B, amounts: &[Money; ACCOUNTS]) -> Result<(), Refusal>
-    ensures answer { answer_number result ≡ first_met (statement_checks (held book.old) (room book.old) (amount_of amounts.now)) }
-    ensures accepted { OnOk result (Settled (held book.old) (room book.old) (amount_of amounts.now) (held book.new) (room book.new)) }
-    ensures turns { OnOk result (InTurn held room takes (amount_of amounts.now) accounts book.old book.new) }
+    ensures answer { answer_number result ≡ first_met (statement_checks (B.held book.old) (B.room book.old) (amount_of amounts.now)) }
+    ensures accepted { OnOk result (Settled (B.held book.old) (B.room book.old) (amount_of amounts.now) (B.held book.new) (B.room book.new)) }
+    ensures turns { OnOk result (InTurn B.held B.room B.takes (amount_of amounts.now) accounts book.old book.new) }
     ensures refused { OnErr result (book.new ≡ book.old) }
-    ensures conditions { (i : ℕ) → holds i book.old → holds i book.new }
+    ensures conditions { (i : ℕ) → B.holds i book.old → B.holds i book.new }
 {
     check_statement(book, amounts)?;
     post_each(book, amounts);

@@ -45,6 +45,14 @@ impl<'a, R: Row> Register<'a, R> {
         find_in(rows, key)
     }
 
+    // Whether a row of that key could be put.
+    pub fn has_place(&self, key: R::Key) -> bool
+        ensures { result ≡ is_some (place R.Row.carried self.now.rows.now (R.Row.numbers key)) }
+    {
+        let rows = &*self.rows;
+        place_in(rows, key).is_some()
+    }
+
     // Writes a row at an index; past the end nothing is written.
     pub fn write(&mut self, index: usize, row: R)
         ensures rows { self.new.rows.now ≡ slice_set self.old.rows.now index (Some row) }

@@ -13,14 +13,14 @@ less-requires c =
     let d = c.args.differences.now in
     let a = suc c.args.k in
     let ieq : Around 2560000000 c.args.moved.now.ieq.0 = omega (arith, ints, ieq_around d facilities a, c.requires.totals.ieq) in
-    let fees = product_around 100000 2560000000 c.rate-of-rate.result.0 c.args.moved.now.ieq.0 c.rate-of-rate.ensures.bound ieq in
-    let paid = product_around 101000000 10000000 c.price-of-price.result.0 c.withdrawn.result.0 c.price-of-price.ensures.bound c.withdrawn.ensures.bound in
-    let charged = product_around 100000 10000000 c.rate-of-rate.result.0 c.charged.result.0 c.rate-of-rate.ensures.bound c.charged.ensures.bound in
+    let fees = product_around 100000 2560000000 c.rate_of-rate.result.0 c.args.moved.now.ieq.0 c.rate_of-rate.ensures.bound ieq in
+    let paid = product_around 101000000 10000000 c.price_of-price.result.0 c.withdrawn.result.0 c.price_of-price.ensures.bound c.withdrawn.ensures.bound in
+    let charged = product_around 100000 10000000 c.rate_of-rate.result.0 c.charged.result.0 c.rate_of-rate.ensures.bound c.charged.ensures.bound in
     record {
       earned = omega (arith, ints, earned_around d facilities a, c.requires.totals.earned);
       fees = omega (arith, ints, c.at-fees.ensures);
       paid = omega (arith, ints, c.at-paid.ensures);
-      load-fees = omega (arith, ints, c.at-load-fees.ensures);
+      load_fees = omega (arith, ints, c.at-load_fees.ensures);
     }
 
 pub returns : goal.returns
@@ -29,17 +29,17 @@ returns c =
     let m = moves_of d in
     let k = c.args.k in
     let lt : k < length d.loads = search rules in
-    let rate = c.rate-of-rate.ensures.value in
+    let rate = c.rate_of-rate.ensures.value in
     let weq = c.withdrawn.ensures.value ∙ load_at d (λ l. l.weq) k c.index-differences-k.result lt in
     let wfq = c.charged.ensures.value ∙ load_at d (λ l. l.wfq) k c.index-differences-k.result lt in
     let fees : c.at-fees.result.0 ≡ rate_of m (suc k) *ℤ c.args.moved.now.ieq.0 = c.at-fees.ensures ∙ ap (λ r. r *ℤ c.args.moved.now.ieq.0) rate in
-    let paid : c.at-paid.result.0 ≡ (m.usep +ℤ m.uplift) *ℤ c.withdrawn.result.0 = c.at-paid.ensures ∙ ap (λ p. p *ℤ c.withdrawn.result.0) c.price-of-price.ensures.value in
-    let charged : c.at-load-fees.result.0 ≡ rate_of m (suc k) *ℤ c.charged.result.0 = c.at-load-fees.ensures ∙ ap (λ r. r *ℤ c.charged.result.0) rate in
+    let paid : c.at-paid.result.0 ≡ (m.usep +ℤ m.uplift) *ℤ c.withdrawn.result.0 = c.at-paid.ensures ∙ ap (λ p. p *ℤ c.withdrawn.result.0) c.price_of-price.ensures.value in
+    let charged : c.at-load_fees.result.0 ≡ rate_of m (suc k) *ℤ c.charged.result.0 = c.at-load_fees.ensures ∙ ap (λ r. r *ℤ c.charged.result.0) rate in
     record {
       value =
           c.less.ensures.value
-          ∙ ap (λ x. c.args.moved.now.earned.0 -ℤ x -ℤ c.at-paid.result.0 -ℤ c.at-load-fees.result.0) fees
-          ∙ ap (λ x. c.args.moved.now.earned.0 -ℤ rate_of m (suc k) *ℤ c.args.moved.now.ieq.0 -ℤ x -ℤ c.at-load-fees.result.0) paid
+          ∙ ap (λ x. c.args.moved.now.earned.0 -ℤ x -ℤ c.at-paid.result.0 -ℤ c.at-load_fees.result.0) fees
+          ∙ ap (λ x. c.args.moved.now.earned.0 -ℤ rate_of m (suc k) *ℤ c.args.moved.now.ieq.0 -ℤ x -ℤ c.at-load_fees.result.0) paid
           ∙ ap (λ x. c.args.moved.now.earned.0 -ℤ rate_of m (suc k) *ℤ c.args.moved.now.ieq.0 -ℤ (m.usep +ℤ m.uplift) *ℤ c.withdrawn.result.0 -ℤ x) charged
           ∙ net_is m (suc k) _ _ _ _ c.requires.totals.earned c.requires.totals.ieq weq wfq;
       bound = c.less.ensures.bound;

@@ -20,9 +20,9 @@ loop-line-preserved c =
     let a = c.args.account in
     let e = c.in-Some.entry in
     let here : drop i ls ≡ Some e ∷ drop (i + 1) ls = next_line ls i c.line-item.result c.loop-line-test.true c.line-item.is ∙ ap (λ x. x ∷ drop (i + 1) ls) c.in-Some.is in
-    let r = c.after-line-balance.result in
+    let r = c.after_line-balance.result in
     let fits : SFits w128 r = search rules in
-    last_more _ _ (balance_in ls a) a ls i e here (to_z-of_z w128 r fits ∙ c.after-line-balance.ensures) c.loop-line.invariant
+    last_more _ _ (balance_in ls a) a ls i e here (to_z-of_z w128 r fits ∙ c.after_line-balance.ensures) c.loop-line.invariant
 
 pub returns : goal.returns
 returns c =

@@ -16,6 +16,6 @@ loop-index-preserved c =
 
 pub returns : goal.returns
 returns c = record {
-  used = c.count-used-used.ensures;
-  after = vacated_by_places c.args.lines.now c.loop-index.lines c.loop-index.invariant.0 (λ k h. c.loop-index.invariant.1 k (omega (arith, c.count-used-used.ensures))) (λ k u h. c.loop-index.invariant.2 k (omega (arith, c.count-used-used.ensures)) (omega arith));
+  used = c.count_used-used.ensures;
+  after = vacated_by_places c.args.lines.now c.loop-index.lines c.loop-index.invariant.0 (λ k h. c.loop-index.invariant.1 k (omega (arith, c.count_used-used.ensures))) (λ k u h. c.loop-index.invariant.2 k (omega (arith, c.count_used-used.ensures)) (omega arith));
 }

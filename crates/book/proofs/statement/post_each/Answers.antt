@@ -8,27 +8,27 @@ use Rattle.book.proofs.statement.post_each.Goals as goal
 pub loop-index-init : goal.loop-index-init
 loop-index-init g c = (no-turn g.B.Book.held g.B.Book.room g.B.Book.takes (amount_of c.args.amounts.now) c.args.book.now, λ i h. h)
 
-pub post-turn-requires : goal.post-turn-requires
-post-turn-requires g c =
+pub post_turn-requires : goal.post_turn-requires
+post_turn-requires g c =
     let b = g.B.Book in
     let i = c.loop-index.index in
     let old = c.args.book.now in
     let mid = c.loop-index.book in
     let amount = amount_of c.args.amounts.now in
     let part = part_of b.held b.room b.takes amount old i mid (omega arith) c.loop-index.invariant.0 in
-    let here : Account (i + 1) = (omega arith, omega arith) in (
-      here,
-      omega (arith, ints, part.left (i + 1) here (omega arith), c.requires.0 (i + 1) here, amount_at c.args.amounts.now i),
-      λ n. part_room i (b.held old) (b.room old) amount (b.held mid) (b.room mid) part (omega arith) c.requires.1 (λ e. n (sym (amount_at c.args.amounts.now i) ∙ e)),
-    )
+    let here : Account (i + 1) = (omega arith, omega arith) in (record {
+      account = here;
+      around = omega (arith, ints, part.left (i + 1) here (omega arith), c.requires.by_index (i + 1) here, amount_at c.args.amounts.now i);
+      book_nonzero = λ n. part_room i (b.held old) (b.room old) amount (b.held mid) (b.room mid) part (omega arith) c.requires.amounts_bound (λ e. n (sym (amount_at c.args.amounts.now i) ∙ e));
+    })
 
 pub loop-index-preserved : goal.loop-index-preserved
 loop-index-preserved g c =
     let b = g.B.Book in
     let i = c.loop-index.index in
     let mid = c.loop-index.book in
-    let new = c.post-turn.new.book in
-    let turn = subst (λ z. Turn b.held b.room b.takes (i + 1) z mid new) (sym (amount_at c.args.amounts.now i)) c.post-turn.ensures.turn in (
+    let new = c.post_turn.new.book in
+    let turn = subst (λ z. Turn b.held b.room b.takes (i + 1) z mid new) (sym (amount_at c.args.amounts.now i)) c.post_turn.ensures.turn in (
       next-turn b.held b.room b.takes (amount_of c.args.amounts.now) c.args.book.now i mid new c.loop-index.invariant.0 turn,
-      λ k h. c.post-turn.ensures.conditions k (c.loop-index.invariant.1 k h),
+      λ k h. c.post_turn.ensures.conditions k (c.loop-index.invariant.1 k h),
     )

@@ -2,21 +2,21 @@ use Rattle.book.specs.Statement.{amount_of}
 use Rattle.book.proofs.Statements.{none-met, all_fine, settled}
 use Rattle.book.proofs.statement.post_statement.Goals as goal
 
-pub post-each-requires : goal.post-each-requires
-post-each-requires g c =
+pub post_each-requires : goal.post_each-requires
+post_each-requires g c =
     let held = g.B.Book.held c.args.book.now in
     let room = g.B.Book.room c.args.book.now in
     let amount = amount_of c.args.amounts.now in
-    let clear = none-met held room amount c.in_ok-check-statement.ensures in
-    (all_fine held amount clear.0, clear.1)
+    let clear = none-met held room amount c.in_ok-check_statement.ensures in
+    (record { by_index = all_fine held amount clear.0; amounts_bound = clear.1 })
 
 pub returns : goal.returns
 returns g c =
     let b = g.B.Book in
-    let told = c.post-each.ensures in
+    let told = c.post_each.ensures in
     record {
-      answer = c.in_ok-check-statement.ensures;
-      accepted = settled b.held b.room b.takes (amount_of c.args.amounts.now) c.args.book.now c.post-each.new.book told.turns;
+      answer = c.in_ok-check_statement.ensures;
+      accepted = settled b.held b.room b.takes (amount_of c.args.amounts.now) c.args.book.now c.post_each.new.book told.turns;
       turns = told.turns;
       refused = tt;
       conditions = told.conditions;

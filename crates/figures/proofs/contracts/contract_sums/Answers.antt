@@ -17,8 +17,8 @@ use Rattle.figures.proofs.contracts.contract_sums.Goals as goal
 pub loop-n-init : goal.loop-n-init
 loop-n-init c a ok = amount_none a ok ∙ sym (sum_none _)
 
-pub add-contract-requires : goal.add-contract-requires
-add-contract-requires c =
+pub add_contract-requires : goal.add_contract-requires
+add_contract-requires c =
     let i = c.args.inputs.now in
     let ok = inputs_in_ranges i in
     record {
@@ -34,7 +34,7 @@ loop-n-preserved c a ok =
     let lt : c.loop-n.n < length i.contracts = search rules in
     let read = get_or_default i.contracts c.loop-n.n c.index-inputs-n.result None lt in
     sum_step c.loop-n.n (λ m. from_contract (basis_of i) a ((basis_of i).contract m)) (amount_at c.loop-n.amounts a) _ (c.loop-n.invariant a ok)
-    (c.add-contract.ensures a ok ∙ ap (λ o. amount_at c.loop-n.amounts a +ℤ from_contract (basis_of i) a (option_map bilateral_of o)) read)
+    (c.add_contract.ensures a ok ∙ ap (λ o. amount_at c.loop-n.amounts a +ℤ from_contract (basis_of i) a (option_map bilateral_of o)) read)
 
 pub returns : goal.returns
 unfolding bsc_of

@@ -19,8 +19,8 @@ use Rattle.figures.proofs.contracts.contracted.Goals as goal
 sold_of : (c : goal.After-positive) → c.positive.result.0 ≡ at_least_0 (ieq_of (basis_of c.args.inputs.now) c.args.contract.now.seller)
 sold_of c = c.positive.ensures ∙ ap at_least_0 (total-IEQ _ _ _ (totalled_at _ _ _ c.requires c.args.contract.now.seller_ok))
 
-pub hundredths-of-sold-requires : goal.hundredths-of-sold-requires
-hundredths-of-sold-requires c =
+pub hundredths_of-sold-requires : goal.hundredths_of-sold-requires
+hundredths_of-sold-requires c =
     let within : Within (pos 0) (pos 1280000000) c.positive.result.0 = rw (sold_of c) (at_least_0_up_to _ _ (IEQ-around _ (inputs_in_ranges c.args.inputs.now) c.args.contract.now.seller)) in
     record { fraction = c.args.contract.now.bif_ok; quantity = omega (arith, ints) }
 
@@ -43,14 +43,14 @@ parts i xs k o drawn bought made sold t lt d b m s =
       ap (λ z. k.baq.0 +ℤ z +ℤ sold) bought-is ∙ ap (λ z. k.baq.0 +ℤ part k.bwf (weq_of (basis_of i) k.buyer) +ℤ z) sold-is,
     )
 
-pub sum-of-requires : goal.sum-of-requires
-sum-of-requires c =
+pub sum_of-requires : goal.sum_of-requires
+sum_of-requires c =
     let lt : c.args.contract.now.buyer - 1 < length c.args.inputs.now.loads = search rules in
-    let p = parts c.args.inputs.now c.args.injected.now c.args.contract.now _ _ _ _ _ c.requires lt c.withdrawn.ensures c.hundredths-of-bought.ensures c.positive.ensures c.hundredths-of-sold.ensures in
+    let p = parts c.args.inputs.now c.args.injected.now c.args.contract.now _ _ _ _ _ c.requires lt c.withdrawn.ensures c.hundredths_of-bought.ensures c.positive.ensures c.hundredths_of-sold.ensures in
     omega (arith, ints, c.args.contract.now.baq_ok)
 
 pub returns : goal.returns
 returns c =
     let lt : c.args.contract.now.buyer - 1 < length c.args.inputs.now.loads = search rules in
-    let p = parts c.args.inputs.now c.args.injected.now c.args.contract.now _ _ _ _ _ c.requires lt c.withdrawn.ensures c.hundredths-of-bought.ensures c.positive.ensures c.hundredths-of-sold.ensures in
-    c.sum-of.ensures ∙ p.2
+    let p = parts c.args.inputs.now c.args.injected.now c.args.contract.now _ _ _ _ _ c.requires lt c.withdrawn.ensures c.hundredths_of-bought.ensures c.positive.ensures c.hundredths_of-sold.ensures in
+    c.sum_of.ensures ∙ p.2

@@ -7,10 +7,10 @@ use Rattle.formulas.proofs.Bounds.{own-FEE-around}
 use Rattle.figures.proofs.Gathered.{inputs_in_ranges}
 use Rattle.figures.proofs.fees.fee_sums.Goals as goal
 
-pub balance-out-requires : goal.balance-out-requires
-balance-out-requires c =
-    record { account = c.args.inputs.now.operator_ok; modest = λ a ok. omega (arith, ints, c.own-fees-amounts.ensures a ok, own-FEE-around (basis_of c.args.inputs.now) (inputs_in_ranges c.args.inputs.now) a) }
+pub balance_out-requires : goal.balance_out-requires
+balance_out-requires c =
+    record { account = c.args.inputs.now.operator_ok; modest = λ a ok. omega (arith, ints, c.own_fees-amounts.ensures a ok, own-FEE-around (basis_of c.args.inputs.now) (inputs_in_ranges c.args.inputs.now) a) }
 
 pub returns : goal.returns
 unfolding fee_of
-returns c a ok = c.balance-out.ensures a ok ∙ balanced_same _ (own_fee_of (basis_of c.args.inputs.now)) c.args.inputs.now.operator c.own-fees-amounts.ensures a ok
+returns c a ok = c.balance_out.ensures a ok ∙ balanced_same _ (own_fee_of (basis_of c.args.inputs.now)) c.args.inputs.now.operator c.own_fees-amounts.ensures a ok

@@ -7,7 +7,7 @@ use Rattle.formulas.specs.Figures.{gesc_of, heua_of, heur_of, lesd_of, weq_of, t
 use Rattle.figures.specs.Meaning.{basis_of}
 use Rattle.formulas.specs.Sums.{sum}
 use Rattle.records.specs.declared.inputs.Inputs.{Inputs}
-use Rattle.formulas.proofs.Bounds.{GESC-around, HEUA-around, product_around, total-load-is, total-load-up-to}
+use Rattle.formulas.proofs.Bounds.{GESC-around, HEUA-around, product_around, total_load-is, total_load-up-to}
 use Rattle.figures.proofs.Gathered.{inputs_in_ranges}
 use Rattle.formulas.proofs.Sums.{sum_scale, sum_within}
 use Rattle.figures.proofs.uplift.uplift_of.Goals as goal
@@ -18,8 +18,8 @@ parts : (i : Inputs) (load earned paid : ℤ) → load ≡ sum accounts (weq_of 
 unfolding heua_of lesd_of
 parts i load earned paid l e p =
     let ok = inputs_in_ranges i in
-    let load_is : load ≡ pos (total_load (basis_of i)) = l ∙ sym (total-load-is (basis_of i) ok) in
-    let few = total-load-up-to (basis_of i) ok in
+    let load_is : load ≡ pos (total_load (basis_of i)) = l ∙ sym (total_load-is (basis_of i) ok) in
+    let few = total_load-up-to (basis_of i) ok in
     let all : paid ≡ sum accounts (lesd_of (basis_of i)) = p ∙ ap (λ z. i.usep.0 *ℤ z) l ∙ sym (sum_scale accounts i.usep.0 (weq_of (basis_of i))) in (
       rw e (sum_within accounts 1280000000000000 (gesc_of (basis_of i)) (λ a _ _. GESC-around (basis_of i) ok a)),
       rw p (product_around 1000000 960000000 i.usep.0 load i.usep_ok (omega (arith, ints))),
@@ -34,7 +34,7 @@ rate_is i amount load a l =
     ap (λ z. cond (eqb (whole z) 0) (pos 0) (floor amount (whole z))) l ∙ ap (λ z. cond (eqb (total_load (basis_of i)) 0) (pos 0) (floor z (total_load (basis_of i)))) a
 
 pub overflow_sub-amount : goal.overflow_sub-amount
-overflow_sub-amount c = let p = parts c.args.inputs.now _ _ _ c.total-withdrawn-load.ensures c.total-earned-earned.ensures c.at-paid.ensures in omega (arith, ints)
+overflow_sub-amount c = let p = parts c.args.inputs.now _ _ _ c.total_withdrawn-load.ensures c.total_earned-earned.ensures c.at-paid.ensures in omega (arith, ints)
 
 -- three amounts together, as the code holds them
 three : (e p q : ℤ) → Around 122880000000000000 e → Around 960000000000000 p → Around 100000000000000000 q → SFits w128 (to_z w128 (of_z w128 (to_z w128 (of_z w128 e) -ℤ to_z w128 (of_z w128 p))) +ℤ to_z w128 (of_z w128 q))
@@ -42,17 +42,17 @@ three e p q f g h = omega (arith, ints)
 
 pub overflow_add-amount : goal.overflow_add-amount
 overflow_add-amount c =
-    let p = parts c.args.inputs.now _ _ _ c.total-withdrawn-load.ensures c.total-earned-earned.ensures c.at-paid.ensures in
+    let p = parts c.args.inputs.now _ _ _ c.total_withdrawn-load.ensures c.total_earned-earned.ensures c.at-paid.ensures in
     three _ _ _ p.0 p.1 c.args.inputs.now.pending_ok
 
-pub rate-of-rate-requires : goal.rate-of-rate-requires
-rate-of-rate-requires c =
-    let p = parts c.args.inputs.now _ _ _ c.total-withdrawn-load.ensures c.total-earned-earned.ensures c.at-paid.ensures in
-    let few = total-load-up-to (basis_of c.args.inputs.now) (inputs_in_ranges c.args.inputs.now) in
+pub rate_of-rate-requires : goal.rate_of-rate-requires
+rate_of-rate-requires c =
+    let p = parts c.args.inputs.now _ _ _ c.total_withdrawn-load.ensures c.total_earned-earned.ensures c.at-paid.ensures in
+    let few = total_load-up-to (basis_of c.args.inputs.now) (inputs_in_ranges c.args.inputs.now) in
     record { amount = omega (arith, ints); load = omega (arith, ints) }
 
 pub returns : goal.returns
 returns c =
     let i = c.args.inputs.now in
-    let p = parts i _ _ _ c.total-withdrawn-load.ensures c.total-earned-earned.ensures c.at-paid.ensures in
-    record { amount = omega (arith, ints); load = p.3; rate = c.rate-of-rate.ensures ∙ rate_is i _ _ (omega (arith, ints)) p.3 }
+    let p = parts i _ _ _ c.total_withdrawn-load.ensures c.total_earned-earned.ensures c.at-paid.ensures in
+    record { amount = omega (arith, ints); load = p.3; rate = c.rate_of-rate.ensures ∙ rate_is i _ _ (omega (arith, ints)) p.3 }

@@ -14,12 +14,12 @@ use Rattle.figures.proofs.vesting.own_vesting.Goals as goal
 pub loop-k-init : goal.loop-k-init
 loop-k-init c = (refl, λ a low high. absurd (omega arith))
 
-pub reference-price-reference-requires : goal.reference-price-reference-requires
-reference-price-reference-requires c = totalled_priced (basis_of c.args.inputs.now) (inputs_in_ranges c.args.inputs.now) (suc c.loop-k.k) _ (c.requires c.loop-k.k c.loop-k-test.true)
+pub reference_price-reference-requires : goal.reference_price-reference-requires
+reference_price-reference-requires c = totalled_priced (basis_of c.args.inputs.now) (inputs_in_ranges c.args.inputs.now) (suc c.loop-k.k) _ (c.requires c.loop-k.k c.loop-k-test.true)
 
-pub from-tranches-requires : goal.from-tranches-requires
-from-tranches-requires c =
-    rw c.reference-price-reference.ensures (totalled_priced (basis_of c.args.inputs.now) (inputs_in_ranges c.args.inputs.now) (suc c.loop-k.k) _ (c.requires c.loop-k.k c.loop-k-test.true)).price
+pub from_tranches-requires : goal.from_tranches-requires
+from_tranches-requires c =
+    rw c.reference_price-reference.ensures (totalled_priced (basis_of c.args.inputs.now) (inputs_in_ranges c.args.inputs.now) (suc c.loop-k.k) _ (c.requires c.loop-k.k c.loop-k-test.true)).price
 
 -- what the account's tranches pay, as the code holds them
 paid : (i : Inputs) (k : ℕ) (p r : ℤ) (t : Tranches) → k < length i.vestings → p ≡ vcrp_of (basis_of i) (suc k)
@@ -33,10 +33,10 @@ paid i k p r t lt price e =
 pub loop-k-preserved : goal.loop-k-preserved
 loop-k-preserved c =
     let i = c.args.inputs.now in
-    let price = c.reference-price-reference.ensures ∙ total-VCRP (basis_of i) (suc c.loop-k.k) _ (c.requires c.loop-k.k c.loop-k-test.true) in
+    let price = c.reference_price-reference.ensures ∙ total-VCRP (basis_of i) (suc c.loop-k.k) _ (c.requires c.loop-k.k c.loop-k-test.true) in
     let within : c.loop-k.k < length i.vestings = search rules in
     let lt : c.loop-k.k < length c.loop-k.amounts = omega arith in
-    (length-set c.loop-k.amounts c.loop-k.k _ ∙ c.loop-k.invariant.0, filled_more (own_vcsc_of (basis_of i)) c.loop-k.amounts c.loop-k.k _ lt c.loop-k.invariant.1 (paid i c.loop-k.k _ _ c.index-inputs-k.result within price c.from-tranches.ensures))
+    (length-set c.loop-k.amounts c.loop-k.k _ ∙ c.loop-k.invariant.0, filled_more (own_vcsc_of (basis_of i)) c.loop-k.amounts c.loop-k.k _ lt c.loop-k.invariant.1 (paid i c.loop-k.k _ _ c.index-inputs-k.result within price c.from_tranches.ensures))
 
 pub returns : goal.returns
 returns c a ok = c.loop-k.invariant.1 a ok.0 (omega arith)

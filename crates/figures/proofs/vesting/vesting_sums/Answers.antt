@@ -7,10 +7,10 @@ use Rattle.formulas.proofs.Bounds.{own-VCSC-around}
 use Rattle.figures.proofs.Gathered.{inputs_in_ranges}
 use Rattle.figures.proofs.vesting.vesting_sums.Goals as goal
 
-pub balance-out-requires : goal.balance-out-requires
-balance-out-requires c =
-    record { account = c.args.inputs.now.counterparty_ok; modest = λ a ok. omega (arith, ints, c.own-vesting-amounts.ensures a ok, own-VCSC-around (basis_of c.args.inputs.now) (inputs_in_ranges c.args.inputs.now) a) }
+pub balance_out-requires : goal.balance_out-requires
+balance_out-requires c =
+    record { account = c.args.inputs.now.counterparty_ok; modest = λ a ok. omega (arith, ints, c.own_vesting-amounts.ensures a ok, own-VCSC-around (basis_of c.args.inputs.now) (inputs_in_ranges c.args.inputs.now) a) }
 
 pub returns : goal.returns
 unfolding vcsc_of
-returns c a ok = c.balance-out.ensures a ok ∙ balanced_same _ (own_vcsc_of (basis_of c.args.inputs.now)) c.args.inputs.now.counterparty c.own-vesting-amounts.ensures a ok
+returns c a ok = c.balance_out.ensures a ok ∙ balanced_same _ (own_vcsc_of (basis_of c.args.inputs.now)) c.args.inputs.now.counterparty c.own_vesting-amounts.ensures a ok

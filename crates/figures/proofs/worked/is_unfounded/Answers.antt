@@ -27,12 +27,12 @@ found i k t x lt total =
     ∙ ap (λ z. (is_some here.base || is_some here.first || is_some here.second) && is_0 z) (sym total.count)
     ∙ ap (λ s. (is_some s.base || is_some s.first || is_some s.second) && eqb x.count 0) (get_or_default i.vestings k no_tranches t lt)
 
-pub returns-then-has-row : goal.returns-then-has-row
-returns-then-has-row c =
+pub returns-then-has_row : goal.returns-then-has_row
+returns-then-has_row c =
     let is = found c.args.inputs.now c.args.k c.index-inputs-k.result _ (search rules) (c.requires.sums.injected c.args.k c.requires.place) in
-    sym (is ∙ ap (λ b. b && eqb (get_or c.args.sums.now.injected c.args.k nothing_injected).count 0) (sym c.if-has-row.ensures))
+    sym (is ∙ ap (λ b. b && eqb (get_or c.args.sums.now.injected c.args.k nothing_injected).count 0) (sym c.if-has_row.ensures))
 
-pub returns-else-has-row : goal.returns-else-has-row
-returns-else-has-row c =
+pub returns-else-has_row : goal.returns-else-has_row
+returns-else-has_row c =
     let is = found c.args.inputs.now c.args.k c.index-inputs-k.result _ (search rules) (c.requires.sums.injected c.args.k c.requires.place) in
-    c.if-has-row.false ∙ sym (is ∙ ap (λ b. b && eqb (get_or c.args.sums.now.injected c.args.k nothing_injected).count 0) (sym c.if-has-row.ensures))
+    c.if-has_row.false ∙ sym (is ∙ ap (λ b. b && eqb (get_or c.args.sums.now.injected c.args.k nothing_injected).count 0) (sym c.if-has_row.ensures))

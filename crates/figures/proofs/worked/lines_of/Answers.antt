@@ -18,31 +18,31 @@ pub overflow_add-upto : goal.overflow_add-upto
 overflow_add-upto c =
     (load_more c.args.inputs.now c.loop-k.k _ _ c.loop-k-test.true c.loop-k.invariant.1 (drawn_at c.args.inputs.now c.loop-k.k _ _ (search rules) c.withdrawn-upto.ensures)).0
 
-pub borne-upto-bears-requires : goal.borne-upto-bears-requires
-borne-upto-bears-requires c =
+pub borne_upto-bears-requires : goal.borne_upto-bears-requires
+borne_upto-bears-requires c =
     let more = load_more c.args.inputs.now c.loop-k.k _ _ c.loop-k-test.true c.loop-k.invariant.1 (drawn_at c.args.inputs.now c.loop-k.k _ _ (search rules) c.withdrawn-upto.ensures) in
     record { uplift = c.requires.uplift; upto = rw more.1 more.2 }
 
 pub overflow_sub-bears : goal.overflow_sub-bears
 overflow_sub-bears c =
     let more = load_more c.args.inputs.now c.loop-k.k _ _ c.loop-k-test.true c.loop-k.invariant.1 (drawn_at c.args.inputs.now c.loop-k.k _ _ (search rules) c.withdrawn-upto.ensures) in
-    (share_more c.args.inputs.now c.loop-k.k _ _ c.loop-k-test.true (c.borne-upto-bears.ensures ∙ ap (borne (heua_of (basis_of c.args.inputs.now)) (total_load (basis_of c.args.inputs.now))) more.1) c.loop-k.invariant.2).0
+    (share_more c.args.inputs.now c.loop-k.k _ _ c.loop-k-test.true (c.borne_upto-bears.ensures ∙ ap (borne (heua_of (basis_of c.args.inputs.now)) (total_load (basis_of c.args.inputs.now))) more.1) c.loop-k.invariant.2).0
 
-pub line-of-requires : goal.line-of-requires
-line-of-requires c =
+pub line_of-requires : goal.line_of-requires
+line_of-requires c =
     let more = load_more c.args.inputs.now c.loop-k.k _ _ c.loop-k-test.true c.loop-k.invariant.1 (drawn_at c.args.inputs.now c.loop-k.k _ _ (search rules) c.withdrawn-upto.ensures) in
-    let share = share_more c.args.inputs.now c.loop-k.k _ _ c.loop-k-test.true (c.borne-upto-bears.ensures ∙ ap (borne (heua_of (basis_of c.args.inputs.now)) (total_load (basis_of c.args.inputs.now))) more.1) c.loop-k.invariant.2 in
+    let share = share_more c.args.inputs.now c.loop-k.k _ _ c.loop-k-test.true (c.borne_upto-bears.ensures ∙ ap (borne (heua_of (basis_of c.args.inputs.now)) (total_load (basis_of c.args.inputs.now))) more.1) c.loop-k.invariant.2 in
     record { place = c.loop-k-test.true; sums = c.requires; share = share.1 }
 
 pub loop-k-preserved : goal.loop-k-preserved
 loop-k-preserved c =
     let more = load_more c.args.inputs.now c.loop-k.k _ _ c.loop-k-test.true c.loop-k.invariant.1 (drawn_at c.args.inputs.now c.loop-k.k _ _ (search rules) c.withdrawn-upto.ensures) in
-    let fits : SFits w128 c.borne-upto-bears.result.0 = search rules in
+    let fits : SFits w128 c.borne_upto-bears.result.0 = search rules in
     let lt : c.loop-k.k < length c.loop-k.lines = omega arith in (
       length-set c.loop-k.lines c.loop-k.k _ ∙ c.loop-k.invariant.0,
       more.1,
-      to_z-of_z w128 c.borne-upto-bears.result.0 fits ∙ c.borne-upto-bears.ensures ∙ ap (borne (heua_of (basis_of c.args.inputs.now)) (total_load (basis_of c.args.inputs.now))) more.1,
-      lines_more (basis_of c.args.inputs.now) c.loop-k.lines c.loop-k.k _ lt c.loop-k.invariant.3 c.line-of.ensures,
+      to_z-of_z w128 c.borne_upto-bears.result.0 fits ∙ c.borne_upto-bears.ensures ∙ ap (borne (heua_of (basis_of c.args.inputs.now)) (total_load (basis_of c.args.inputs.now))) more.1,
+      lines_more (basis_of c.args.inputs.now) c.loop-k.lines c.loop-k.k _ lt c.loop-k.invariant.3 c.line_of.ensures,
     )
 
 pub returns : goal.returns

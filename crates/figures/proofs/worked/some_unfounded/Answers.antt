@@ -13,11 +13,11 @@ none_more n t p q = ap (λ m. some_of m t) (add-one n) ∙ some_more n t ∙ ap 
 pub loop-k-init : goal.loop-k-init
 loop-k-init c = some_none _
 
-pub returns-then-is-unfounded : goal.returns-then-is-unfounded
-returns-then-is-unfounded c = sym (some_from accounts (unfounded (basis_of c.args.inputs.now)) (suc c.loop-k.k) (omega arith) (omega arith) (sym c.if-is-unfounded.ensures))
+pub returns-then-is_unfounded : goal.returns-then-is_unfounded
+returns-then-is_unfounded c = sym (some_from accounts (unfounded (basis_of c.args.inputs.now)) (suc c.loop-k.k) (omega arith) (omega arith) (sym c.if-is_unfounded.ensures))
 
 pub loop-k-preserved : goal.loop-k-preserved
-loop-k-preserved c = none_more c.loop-k.k (unfounded (basis_of c.args.inputs.now)) c.loop-k.invariant (sym c.if-is-unfounded.ensures)
+loop-k-preserved c = none_more c.loop-k.k (unfounded (basis_of c.args.inputs.now)) c.loop-k.invariant (sym c.if-is_unfounded.ensures)
 
 pub returns : goal.returns
 returns c = let end : c.loop-k.k ≡ accounts = omega arith in sym (ap (λ n. some_of n (unfounded (basis_of c.args.inputs.now))) (sym end) ∙ c.loop-k.invariant)

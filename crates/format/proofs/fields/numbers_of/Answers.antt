@@ -8,14 +8,14 @@ use Rattle.format.proofs.fields.numbers_of.Goals as goal
 
 pub returns-in_err-value : goal.returns-in_err-value
 returns-in_err-value c =
-    let found = c.place-of-comma.ensures in
-    let fields = first_field c.loop-value.rest.now c.place-of-comma.result found.before found.found in
+    let found = c.place_of-comma.ensures in
+    let fields = first_field c.loop-value.rest.now c.place_of-comma.result found.before found.found in
     ap (option_map listed) c.from_residual.ensures ∙ sym (no_number (listed c.loop-value.numbers) (fields_of c.loop-value.rest.now) _ fields.0 fields.1 c.in_err-value.ensures) ∙ c.loop-value.invariant.1
 
 pub returns-in_err-numbers : goal.returns-in_err-numbers
 returns-in_err-numbers c =
-    let found = c.place-of-comma.ensures in
-    let fields = first_field c.loop-value.rest.now c.place-of-comma.result found.before found.found in
+    let found = c.place_of-comma.ensures in
+    let fields = first_field c.loop-value.rest.now c.place_of-comma.result found.before found.found in
     let same : to_z w64 (of_z w64 c.in_ok-value.value) ≡ c.in_ok-value.value = search rules in
     ap (option_map listed) c.from_residual-in_err-numbers.ensures
     ∙ sym (not_one_more (listed c.loop-value.numbers) (fields_of c.loop-value.rest.now) _ fields.0 c.in_ok-value.value _ same fields.1 c.in_ok-value.ensures c.in_err-numbers.ensures)
@@ -24,7 +24,7 @@ returns-in_err-numbers c =
 pub returns-then-comma-rest : goal.returns-then-comma-rest
 returns-then-comma-rest c =
     let same : to_z w64 (of_z w64 c.in_ok-value.value) ≡ c.in_ok-value.value = search rules in
-    all_read c.loop-value.rest.now c.place-of-comma.result (listed c.loop-value.numbers) c.in_ok-value.value _ _ same c.place-of-comma.ensures.before c.if-comma-rest.true c.in_ok-value.ensures c.in_ok-numbers.ensures
+    all_read c.loop-value.rest.now c.place_of-comma.result (listed c.loop-value.numbers) c.in_ok-value.value _ _ same c.place_of-comma.ensures.before c.if-comma-rest.true c.in_ok-value.ensures c.in_ok-numbers.ensures
     ∙ c.loop-value.invariant.1
 
 pub overflow_add-rest : goal.overflow_add-rest
@@ -33,8 +33,8 @@ overflow_add-rest c = omega arith
 pub loop-value-preserved : goal.loop-value-preserved
 loop-value-preserved c =
     let same : to_z w64 (of_z w64 c.in_ok-value.value) ≡ c.in_ok-value.value = search rules in
-    let shorter : length (take (length c.loop-value.rest.now - (c.place-of-comma.result + 1)) (drop (c.place-of-comma.result + 1) c.loop-value.rest.now)) ≤ length c.args.text.now = rw (take_rest c.loop-value.rest.now (c.place-of-comma.result + 1), length-drop (c.place-of-comma.result + 1) c.loop-value.rest.now) (omega arith) in (
+    let shorter : length (take (length c.loop-value.rest.now - (c.place_of-comma.result + 1)) (drop (c.place_of-comma.result + 1) c.loop-value.rest.now)) ≤ length c.args.text.now = rw (take_rest c.loop-value.rest.now (c.place_of-comma.result + 1), length-drop (c.place_of-comma.result + 1) c.loop-value.rest.now) (omega arith) in (
       shorter,
-      read_on c.loop-value.rest.now c.place-of-comma.result (listed c.loop-value.numbers) c.in_ok-value.value _ (listed c.in_ok-numbers.numbers) same c.place-of-comma.ensures.before c.if-comma-rest.false (c.place-of-comma.ensures.found c.if-comma-rest.false) c.in_ok-value.ensures c.in_ok-numbers.ensures
+      read_on c.loop-value.rest.now c.place_of-comma.result (listed c.loop-value.numbers) c.in_ok-value.value _ (listed c.in_ok-numbers.numbers) same c.place_of-comma.ensures.before c.if-comma-rest.false (c.place_of-comma.ensures.found c.if-comma-rest.false) c.in_ok-value.ensures c.in_ok-numbers.ensures
           ∙ c.loop-value.invariant.1,
     )

@@ -32,22 +32,22 @@ alone text p numbers none before le is e =
     ([], last_field text p before le ∙ ap (λ n. take n text ∷ []) (sym whole), ap (option_map listed) is ∙ ap Some e)
 
 -- what was read, whether a comma follows the word or not
-read : (c : Joined-comma-text) → Read c.args.text.now c.place-of-comma.result c.if-comma-text.numbers
+read : (c : Joined-comma-text) → Read c.args.text.now c.place_of-comma.result c.if-comma-text.numbers
 read c =
     elim c.if-comma-text.branch [
-      | then-comma-text w ↦ with_comma _ _ _ _ c.place-of-comma.ensures.before w.if-comma-text.true (c.place-of-comma.ensures.found w.if-comma-text.true) w.numbers-is w.numbers-of-numbers.ensures
-      | else-comma-text w ↦ alone _ _ _ _ c.place-of-comma.ensures.before w.if-comma-text.false w.numbers-is w.none.ensures
+      | then-comma-text w ↦ with_comma _ _ _ _ c.place_of-comma.ensures.before w.if-comma-text.true (c.place_of-comma.ensures.found w.if-comma-text.true) w.numbers-is w.numbers_of-numbers.ensures
+      | else-comma-text w ↦ alone _ _ _ _ c.place_of-comma.ensures.before w.if-comma-text.false w.numbers-is w.none.ensures
     ]
 
 pub returns-in-Some : goal.returns-in-Some
 returns-in-Some c =
-    let word = take (c.place-of-comma.result - 0) c.args.text.now in
+    let word = take (c.place_of-comma.result - 0) c.args.text.now in
     c.called.ensures
-    ∙ ap (by_word word) c.as-slice.ensures
+    ∙ ap (by_word word) c.as_slice.ensures
     ∙ ap (λ o. of_numbers word (option_map listed o)) (sym c.in-Some.is)
-    ∙ sym (says c.args.text.now c.place-of-comma.result _ (read (goal.at.returns-in-Some c).Joined-comma-text))
+    ∙ sym (says c.args.text.now c.place_of-comma.result _ (read (goal.at.returns-in-Some c).Joined-comma-text))
 
 pub returns-in-None : goal.returns-in-None
 returns-in-None c =
-    let word = take (c.place-of-comma.result - 0) c.args.text.now in
-    ap (λ o. of_numbers word (option_map listed o)) (sym c.in-None.is) ∙ sym (says c.args.text.now c.place-of-comma.result _ (read (goal.at.returns-in-None c).Joined-comma-text))
+    let word = take (c.place_of-comma.result - 0) c.args.text.now in
+    ap (λ o. of_numbers word (option_map listed o)) (sym c.in-None.is) ∙ sym (says c.args.text.now c.place_of-comma.result _ (read (goal.at.returns-in-None c).Joined-comma-text))

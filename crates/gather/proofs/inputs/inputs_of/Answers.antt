@@ -16,4 +16,4 @@ unfolding basis_at
 returns c =
     let terms = c.args.terms.now in
     same_basis terms.usep.0 terms.rate.0 terms.pending.0 terms.counterparty terms.operator _ _ _ _ _ _ _ _
-    (fun_ext c.facilities-of.ensures) (fun_ext c.loads-of.ensures) (fun_ext c.contracts-of.ensures) (fun_ext (λ a. fun_ext (c.vestings-of.ensures a)))
+    (fun_ext c.facilities_of.ensures) (fun_ext c.loads_of.ensures) (fun_ext c.contracts_of.ensures) (fun_ext (λ a. fun_ext (c.vestings_of.ensures a)))

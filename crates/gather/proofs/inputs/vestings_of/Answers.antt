@@ -9,4 +9,4 @@ gather-requires c = λ i. nothing_at (3 * accounts) i
 
 pub returns : goal.returns
 returns c =
-    by_tranche c.args.rows.now c.gather.new.held c.by-account.result c.args.half_hour.day c.args.half_hour.interval (search rules) c.gather.ensures c.by-account.ensures
+    by_tranche c.args.rows.now c.gather.new.held c.by_account.result c.args.half_hour.day c.args.half_hour.interval (search rules) c.gather.ensures c.by_account.ensures

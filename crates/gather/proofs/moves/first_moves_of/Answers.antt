@@ -8,4 +8,4 @@ unfolding moves_at
 returns c =
     let i = c.args.interval.now in
     same_moves i.usep.0 i.rate.0 _ _ c.args.operator _ _ _ _
-    c.uplift-of.ensures (fun_ext c.first-facilities.ensures) (fun_ext c.first-loads.ensures)
+    c.uplift_of.ensures (fun_ext c.first_facilities.ensures) (fun_ext c.first_loads.ensures)

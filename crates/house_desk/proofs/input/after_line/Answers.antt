@@ -4,12 +4,12 @@ use Rattle.house_desk.proofs.input.after_line.Goals as goal
 
 pub returns-then-end-text : goal.returns-then-end-text
 returns-then-end-text c = record {
-  value = rest_cut _ _ c.place-of-end.ensures.before c.if-end-text.true (c.place-of-end.ensures.found c.if-end-text.true);
+  value = rest_cut _ _ c.place_of-end.ensures.before c.if-end-text.true (c.place_of-end.ensures.found c.if-end-text.true);
   shorter = search rules;
 }
 
 pub returns-else-end-text : goal.returns-else-end-text
 returns-else-end-text c = record {
-  value = sym (nothing_after _ _ c.place-of-end.ensures.before c.if-end-text.false);
+  value = sym (nothing_after _ _ c.place_of-end.ensures.before c.if-end-text.false);
   shorter = λ h. h;
 }

@@ -1,17 +1,17 @@
 use Rattle.std.proofs.Common.{◌≡◌, ◌+◌, cond, is_some, sym, ap, ◌∙◌, arith}
 use Rattle.pool.proofs.Places.{all_counted, one_counted}
 use Rattle.pool.proofs.tally.taken.Goals as goal
-use Rattle.pool.proofs.tally.taken.Goals.{then-is-some, else-is-some}
+use Rattle.pool.proofs.tally.taken.Goals.{then-is_some, else-is_some}
 
 pub loop-place-preserved : goal.loop-place-preserved
 loop-place-preserved g c =
-    let told = c.is-some.ensures in
-    let more : c.if-is-some.count ≡ c.loop-place.count + cond (is_some c.place-item.result) 1 0 =
-    elim c.if-is-some.branch [
-      | then-is-some w ↦ rw (sym told ∙ w.if-is-some.true) w.count-is
-      | else-is-some w ↦ rw (sym told ∙ w.if-is-some.false) (omega (arith, w.count-is))
+    let told = c.is_some.ensures in
+    let more : c.if-is_some.count ≡ c.loop-place.count + cond (is_some c.place-item.result) 1 0 =
+    elim c.if-is_some.branch [
+      | then-is_some w ↦ rw (sym told ∙ w.if-is_some.true) w.count-is
+      | else-is_some w ↦ rw (sym told ∙ w.if-is_some.false) (omega (arith, w.count-is))
     ] in (
-      elim c.if-is-some.branch [ then-is-some w ↦ omega (arith, w.count-is) | else-is-some w ↦ omega (arith, w.count-is) ],
+      elim c.if-is_some.branch [ then-is_some w ↦ omega (arith, w.count-is) | else-is_some w ↦ omega (arith, w.count-is) ],
       one_counted _ _ _ _ c.place-item.result c.loop-place-test.true c.place-item.is c.loop-place.invariant.1 more,
     )
 

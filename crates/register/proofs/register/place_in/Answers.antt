@@ -3,7 +3,7 @@ use Rattle.std.proofs.lemmas.List.{drop_all}
 use Rattle.register.specs.Keys.{same_key}
 use Rattle.register.proofs.Rows.{drop_item, first_free, kept_free, place-all, place_here, place_none, place-past, place-vacant}
 use Rattle.register.proofs.register.place_in.Goals as goal
-use Rattle.register.proofs.register.place_in.Goals.{in-Some+else-eq, in-None+then-is-none, in-None+else-is-none}
+use Rattle.register.proofs.register.place_in.Goals.{in-Some+else-eq, in-None+then-is_none, in-None+else-is_none}
 
 below : (n : ℕ) {o p : Option ℕ} → o ≡ p → IfSome p (λ j. j < n) → IfSome o (λ j. j < n)
 below n e h = let P : Option ℕ → Type 0 = λ o. IfSome o (λ j. j < n) in subst P (sym e) h
@@ -35,21 +35,21 @@ loop-i-preserved g c =
             let past = place-past g.R.Row.carried i c.loop-i.vacant w.in-Some.row rest k other in
             let v = w.vacant-is in
             cc)
-        | in-None+then-is-none w ↦ (
+        | in-None+then-is_none w ↦ (
             let past = place-vacant g.R.Row.carried i c.loop-i.vacant rest k in
-            let free = first_free c.loop-i.vacant i w.if-is-none.ensures in
+            let free = first_free c.loop-i.vacant i w.if-is_none.ensures in
             let v = w.vacant-is in
             cc)
-        | in-None+else-is-none w ↦ (
+        | in-None+else-is_none w ↦ (
             let past = place-vacant g.R.Row.carried i c.loop-i.vacant rest k in
-            let free = kept_free c.loop-i.vacant i w.if-is-none.ensures in
+            let free = kept_free c.loop-i.vacant i w.if-is_none.ensures in
             let v = w.vacant-is in
             cc)
       ],
       elim c.match-slot.branch [
         | in-Some+else-eq w ↦ below _ w.vacant-is c.loop-i.invariant.1
-        | in-None+then-is-none w ↦ below _ w.vacant-is c.loop-i-test.true
-        | in-None+else-is-none w ↦ below _ w.vacant-is c.loop-i.invariant.1
+        | in-None+then-is_none w ↦ below _ w.vacant-is c.loop-i-test.true
+        | in-None+else-is_none w ↦ below _ w.vacant-is c.loop-i.invariant.1
       ],
     )
 

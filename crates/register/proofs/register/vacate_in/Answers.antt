@@ -1,9 +1,8 @@
-use Rattle.std.proofs.Common.{◌≡◌, true, false, cond, map, set, Some, None, sym, ap, ◌∙◌}
+use Rattle.std.proofs.Common.{◌≡◌, ◌&&◌, nat_eq, true, false, cond, map, set, Some, None, sym, ap, ◌∙◌}
 use Rattle.std.proofs.lemmas.List.{append-nil, drop_all, take_all}
 use Rattle.std.proofs.lemmas.List.Edits.{map_over_more}
 use Rattle.register.specs.Keys.{of_half_hour}
 use Rattle.register.specs.Rows.{vacated}
-use Rattle.register.proofs.Keys.{half_hour_tells}
 use Rattle.register.proofs.register.vacate_in.Goals as goal
 use Rattle.register.proofs.register.vacate_in.Goals.{in-Some+then-eq, in-Some+else-eq, in_default}
 
@@ -14,12 +13,12 @@ loop-slot-preserved g c =
     let next = map_over_more f c.args.rows.now c.loop-slot.rows c.loop-slot.slot-index c.slot-item.result c.loop-slot-test.true c.loop-slot.invariant c.slot-item.is in
     let written : c.match-slot.rows ≡ set c.loop-slot.rows c.loop-slot.slot-index (f c.slot-item.result) = elim c.match-slot.branch [
       | in-Some+then-eq w ↦ (
-          let told = half_hour_tells w.half_hour.result.day h.day w.half_hour.result.interval h.interval true w.if-eq.ensures in
+          let told : true ≡ (nat_eq w.half_hour.result.day h.day && nat_eq w.half_hour.result.interval h.interval) = w.if-eq.ensures in
           let was : of_half_hour h.day h.interval (g.R.Row.carried w.in-Some.row) ≡ true = cc in
           let e : f (Some w.in-Some.row) ≡ None = ap (λ b. cond b None (Some w.in-Some.row)) was in
           cc)
       | in-Some+else-eq w ↦ (
-          let told = half_hour_tells w.half_hour.result.day h.day w.half_hour.result.interval h.interval false w.if-eq.ensures in
+          let told : false ≡ (nat_eq w.half_hour.result.day h.day && nat_eq w.half_hour.result.interval h.interval) = w.if-eq.ensures in
           let was : of_half_hour h.day h.interval (g.R.Row.carried w.in-Some.row) ≡ false = cc in
           let e : f (Some w.in-Some.row) ≡ Some w.in-Some.row = ap (λ b. cond b None (Some w.in-Some.row)) was in
           cc)

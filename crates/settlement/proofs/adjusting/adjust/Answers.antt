@@ -60,8 +60,8 @@ returns-in_err-plan g c =
       joined = λ j. two_are_one h.operator j fs ls;
     }
 
-pub returns-in_err-post-statement : goal.returns-in_err-post-statement
-returns-in_err-post-statement g c =
+pub returns-in_err-post_statement : goal.returns-in_err-post_statement
+returns-in_err-post_statement g c =
     let step = c.args.step in
     let call = c.args.call.now in
     let h = house_says c.args.house.now in
@@ -75,15 +75,15 @@ returns-in_err-post-statement g c =
     let amount = amount_of c.in_ok-plan.plan.amounts in
     record {
       answer =
-          handed_on c.from_residual-in_err-post-statement.result c.in_err-post-statement.field-0.0 c.from_residual-in_err-post-statement.ensures.1
-          ∙ c.in_err-post-statement.ensures.answer
+          handed_on c.from_residual-in_err-post_statement.result c.in_err-post_statement.field-0.0 c.from_residual-in_err-post_statement.ensures.1
+          ∙ c.in_err-post_statement.ensures.answer
           ∙ checks-same amount (adjusts step h i fs ls) plan.planned.amounts held room
           ∙ past_plan (not (is_stamped call)) (open_at is (stamped_key call)) i (planned step call h fs ls) (λ j. statement_checks held room (adjusts step h j fs ls)) plan.planned.opened (numbered (not (is_stamped call)) step call h fs ls i) plan.answer;
       intervals = search rules;
       house = search rules;
       book = search rules;
       turns = search rules;
-      conditions = c.in_err-post-statement.ensures.conditions;
+      conditions = c.in_err-post_statement.ensures.conditions;
       joined = λ j. two_are_one h.operator j fs ls;
     }
 
@@ -100,14 +100,14 @@ returns g c =
     let plan = c.in_ok-plan.ensures in
     let i = plan.planned.interval in
     let amount = amount_of c.in_ok-plan.plan.amounts in
-    let posted = c.in_ok-post-statement.ensures in
-    let new = c.post-statement.new.book in
+    let posted = c.in_ok-post_statement.ensures in
+    let new = c.post_statement.new.book in
     record {
       answer =
           posted.answer
           ∙ checks-same amount (adjusts step h i fs ls) plan.planned.amounts held room
           ∙ past_plan (not (is_stamped call)) (open_at is (stamped_key call)) i (planned step call h fs ls) (λ j. statement_checks held room (adjusts step h j fs ls)) plan.planned.opened (numbered (not (is_stamped call)) step call h fs ls i) plan.answer;
-      intervals = ap interval_rows c.write-interval.ensures ∙ plan.intervals;
+      intervals = ap interval_rows c.write_interval.ensures ∙ plan.intervals;
       house = λ j e. plan.planned.house ∙ ap (λ k. adjusted_house step h k fs ls) (some_same i j (sym plan.planned.opened ∙ e));
       book = λ j e. subst (λ k. Settled held room (adjusts step h k fs ls) (g.B.Book.held new) (g.B.Book.room new)) (some_same i j (sym plan.planned.opened ∙ e)) (settled_same amount (adjusts step h i fs ls) plan.planned.amounts held room _ _ posted.accepted);
       turns = λ j e. subst (λ k. InTurn g.B.Book.held g.B.Book.room g.B.Book.takes (adjusts step h k fs ls) accounts c.args.book.now new) (some_same i j (sym plan.planned.opened ∙ e)) (turns_same amount (adjusts step h i fs ls) plan.planned.amounts _ _ _ accounts _ _ (omega arith) posted.turns);

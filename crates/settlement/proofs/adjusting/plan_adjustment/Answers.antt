@@ -69,8 +69,8 @@ returns-in_err-opened c =
       planned = search rules;
     }
 
-pub returns-in_err-check-stamp : goal.returns-in_err-check-stamp
-returns-in_err-check-stamp c =
+pub returns-in_err-check_stamp : goal.returns-in_err-check_stamp
+returns-in_err-check_stamp c =
     let step = c.args.step in
     let call = c.args.call.now in
     let h = house_says c.args.house.now in
@@ -83,8 +83,8 @@ returns-in_err-check-stamp c =
     let s = c.in_ok-taken.taken.stamp in
     record {
       answer =
-          handed_on c.from_residual-in_err-check-stamp.result c.in_err-check-stamp.field-0.0 c.from_residual-in_err-check-stamp.ensures.1
-          ∙ stops c.in_err-check-stamp.field-0.0 (adjusting_stamp step call i) (fifteen step h fs ls i ∷ []) (c.in_err-check-stamp.ensures ∙ at_stamp step call s stamp.0 stamp.1 i)
+          handed_on c.from_residual-in_err-check_stamp.result c.in_err-check_stamp.field-0.0 c.from_residual-in_err-check_stamp.ensures.1
+          ∙ stops c.in_err-check_stamp.field-0.0 (adjusting_stamp step call i) (fifteen step h fs ls i ∷ []) (c.in_err-check_stamp.ensures ∙ at_stamp step call s stamp.0 stamp.1 i)
           ∙ past_open (not (is_stamped call)) (open_at is (stamped_key call)) i (rest step call h fs ls) c.in_ok-taken.ensures.answer found;
       intervals = search rules;
       planned = search rules;
@@ -107,7 +107,7 @@ returns-in_err-house c =
           handed_on c.from_residual-in_err-house.result c.in_err-house.field-0.0 c.from_residual-in_err-house.ensures.1
           ∙ c.in_err-house.ensures.answer
           ∙ ap (λ z. first_met (check 15 (not (inside balance_range (h.pending +ℤ z))) ∷ [])) c.worked-worked.ensures.total
-          ∙ past_stamp step call i (fifteen step h fs ls i ∷ []) (c.in_ok-check-stamp.ensures ∙ at_stamp step call s stamp.0 stamp.1 i)
+          ∙ past_stamp step call i (fifteen step h fs ls i ∷ []) (c.in_ok-check_stamp.ensures ∙ at_stamp step call s stamp.0 stamp.1 i)
           ∙ past_open (not (is_stamped call)) (open_at is (stamped_key call)) i (rest step call h fs ls) c.in_ok-taken.ensures.answer found;
       intervals = search rules;
       planned = search rules;
@@ -132,7 +132,7 @@ returns c =
       answer =
           c.in_ok-house.ensures.answer
           ∙ ap (λ z. first_met (check 15 (not (inside balance_range (h.pending +ℤ z))) ∷ [])) c.worked-worked.ensures.total
-          ∙ past_stamp step call i (fifteen step h fs ls i ∷ []) (c.in_ok-check-stamp.ensures ∙ at_stamp step call s stamp.0 stamp.1 i)
+          ∙ past_stamp step call i (fifteen step h fs ls i ∷ []) (c.in_ok-check_stamp.ensures ∙ at_stamp step call s stamp.0 stamp.1 i)
           ∙ past_open (not (is_stamped call)) (open_at is (stamped_key call)) i (rest step call h fs ls) c.in_ok-taken.ensures.answer found;
       intervals =
           c.in_ok-opened.ensures.writes moved (ap key_of kept.0 ∙ lookup-carries interval_named is _ i c.in_ok-opened.ensures.found)

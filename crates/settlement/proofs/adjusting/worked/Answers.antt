@@ -22,7 +22,7 @@ returns c =
     let i = interval_says c.args.interval.now in
     let fs = facility_rows c.args.facilities.now in
     let ls = load_rows c.args.loads.now in
-    let same = c.differences-of-differences.ensures ∙ ap (λ o. moves_in (before_value step) (after_value step) o i fs ls) c.terms-terms.ensures.house.1 in
+    let same = c.differences_of-differences.ensures ∙ ap (λ o. moves_in (before_value step) (after_value step) o i fs ls) c.terms-terms.ensures.house.1 in
     record {
       amounts = λ a ok. same_amount c.adjustments.result.amounts a ok ∙ c.adjustments.ensures.amounts a ok ∙ ap (λ m. nmea_of m a) same;
       total = c.adjustments.ensures.total ∙ ap (λ m. sum accounts (nmea_of m)) same;

@@ -63,8 +63,8 @@ returns-in-Err g c =
       statement = search rules;
     }
 
-pub returns-in-Err-post-statement : goal.returns-in-Err-post-statement
-returns-in-Err-post-statement g c =
+pub returns-in-Err-post_statement : goal.returns-in-Err-post_statement
+returns-in-Err-post_statement g c =
     let d = c.args.call.now.days in
     let m = c.args.call.now.minute in
     let st = c.args.statement in
@@ -80,13 +80,13 @@ returns-in-Err-post-statement g c =
     let amount = amount_of c.credits-amounts.result in
     let same = c.credits-amounts.ensures (basis i) plan.figures.1.1.lines in
     record {
-      answer = c.in-Err-post-statement.ensures.answer ∙ checks-same amount (nasc_of (basis i)) same held room ∙ past_plan (is_stamp d m) (not (belongs st h.number is)) (open_at is (statement_key st)) i (rest d m n basis) (λ j. statement_checks held room (nasc_of (basis j))) found (numbered (not (is_stamp d m)) (not (belongs st h.number is)) d m n basis i) plan.answer;
+      answer = c.in-Err-post_statement.ensures.answer ∙ checks-same amount (nasc_of (basis i)) same held room ∙ past_plan (is_stamp d m) (not (belongs st h.number is)) (open_at is (statement_key st)) i (rest d m n basis) (λ j. statement_checks held room (nasc_of (basis j))) found (numbered (not (is_stamp d m)) (not (belongs st h.number is)) d m n basis i) plan.answer;
       intervals = search rules;
       house = search rules;
       lines = search rules;
-      book = c.in-Err-post-statement.ensures.refused;
+      book = c.in-Err-post_statement.ensures.refused;
       turns = search rules;
-      conditions = c.in-Err-post-statement.ensures.conditions;
+      conditions = c.in-Err-post_statement.ensures.conditions;
       statement = search rules;
     }
 
@@ -107,14 +107,14 @@ returns g c =
     let amount = amount_of c.credits-amounts.result in
     let same = c.credits-amounts.ensures (basis i) plan.figures.1.1.lines in
     let posted = c.in_default.ensures in
-    let new = c.post-statement.new.book in
+    let new = c.post_statement.new.book in
     record {
       answer = posted.answer ∙ checks-same amount (nasc_of (basis i)) same held room ∙ past_plan (is_stamp d m) (not (belongs st h.number is)) (open_at is (statement_key st)) i (rest d m n basis) (λ j. statement_checks held room (nasc_of (basis j))) found (numbered (not (is_stamp d m)) (not (belongs st h.number is)) d m n basis i) plan.answer;
-      intervals = ap interval_rows c.write-interval.ensures ∙ plan.intervals;
-      house = c.with-nothing-pending.ensures;
+      intervals = ap interval_rows c.write_interval.ensures ∙ plan.intervals;
+      house = c.with_nothing_pending.ensures;
       lines = record {
-        written = λ j e. begin_alike (basis j) c.in-Ok.plan.figures.lines c.write-lines.new.lines c.write-lines.ensures.first (subst (λ k. LinesAre (basis k) c.in-Ok.plan.figures.lines) (some_same i j (sym found ∙ e)) plan.figures.1.1.lines);
-        beyond = c.write-lines.ensures.beyond;
+        written = λ j e. begin_alike (basis j) c.in-Ok.plan.figures.lines c.write_lines.new.lines c.write_lines.ensures.first (subst (λ k. LinesAre (basis k) c.in-Ok.plan.figures.lines) (some_same i j (sym found ∙ e)) plan.figures.1.1.lines);
+        beyond = c.write_lines.ensures.beyond;
       };
       book = λ j e. subst (λ k. Settled held room (nasc_of (basis k)) (g.B.Book.held new) (g.B.Book.room new)) (some_same i j (sym found ∙ e)) (settled_same amount (nasc_of (basis i)) same held room _ _ posted.accepted);
       turns = λ j e. subst (λ k. InTurn g.B.Book.held g.B.Book.room g.B.Book.takes (nasc_of (basis k)) accounts c.args.book.now new) (some_same i j (sym found ∙ e)) (turns_same amount (nasc_of (basis i)) same _ _ _ accounts _ _ (omega arith) posted.turns);

@@ -65,8 +65,8 @@ finalised_is : (i j k : Interval) (d m u : ℤ) (s : Stamp) → s.days ≡ nat_a
     → interval_says k ≡ finalised d m basis (interval_says i)
 finalised_is i j k d m u s sd sm basis ue h1 u1 r1 p1 l1 h2 u2 r2 p2 l2 q = cc
 
-pub returns-in_err-check-stamp : goal.returns-in_err-check-stamp
-returns-in_err-check-stamp c =
+pub returns-in_err-check_stamp : goal.returns-in_err-check_stamp
+returns-in_err-check_stamp c =
     let d = c.args.call.now.days in
     let m = c.args.call.now.minute in
     let st = c.args.statement.now in
@@ -82,16 +82,16 @@ returns-in_err-check-stamp c =
     let stamp = at_stamp d m s (as_given _ _ days) (as_given _ _ minute) i in
     record {
       answer =
-          handed_on c.from_residual-in_err-check-stamp.result c.in_err-check-stamp.field-0.0 c.from_residual-in_err-check-stamp.ensures.1
-          ∙ stops c.in_err-check-stamp.field-0.0 (final_stamp d m i) (check 11 (ltb c.args.count accounts) ∷ settling_checks (basis i)) (c.in_err-check-stamp.ensures ∙ stamp)
+          handed_on c.from_residual-in_err-check_stamp.result c.in_err-check_stamp.field-0.0 c.from_residual-in_err-check_stamp.ensures.1
+          ∙ stops c.in_err-check_stamp.field-0.0 (final_stamp d m i) (check 11 (ltb c.args.count accounts) ∷ settling_checks (basis i)) (c.in_err-check_stamp.ensures ∙ stamp)
           ∙ past_two (is_stamp d m) (not (belongs st h.number is)) (open_at is (statement_key st)) i (rest d m c.args.count basis) good c.in_ok-opened.ensures.answer found;
       intervals = search rules;
       figures = search rules;
       lines = search rules;
     }
 
-pub returns-in_err-check-lines : goal.returns-in_err-check-lines
-returns-in_err-check-lines c =
+pub returns-in_err-check_lines : goal.returns-in_err-check_lines
+returns-in_err-check_lines c =
     let d = c.args.call.now.days in
     let m = c.args.call.now.minute in
     let st = c.args.statement.now in
@@ -107,9 +107,9 @@ returns-in_err-check-lines c =
     let stamp = at_stamp d m s (as_given _ _ days) (as_given _ _ minute) i in
     record {
       answer =
-          handed_on c.from_residual-in_err-check-lines.result c.in_err-check-lines.field-0.0 c.from_residual-in_err-check-lines.ensures.1
-          ∙ stops c.in_err-check-lines.field-0.0 (check 11 (ltb c.args.count accounts) ∷ []) (settling_checks (basis i)) c.in_err-check-lines.ensures
-          ∙ past_stamp d m i (check 11 (ltb c.args.count accounts) ∷ settling_checks (basis i)) (c.in_ok-check-stamp.ensures ∙ stamp)
+          handed_on c.from_residual-in_err-check_lines.result c.in_err-check_lines.field-0.0 c.from_residual-in_err-check_lines.ensures.1
+          ∙ stops c.in_err-check_lines.field-0.0 (check 11 (ltb c.args.count accounts) ∷ []) (settling_checks (basis i)) c.in_err-check_lines.ensures
+          ∙ past_stamp d m i (check 11 (ltb c.args.count accounts) ∷ settling_checks (basis i)) (c.in_ok-check_stamp.ensures ∙ stamp)
           ∙ past_two (is_stamp d m) (not (belongs st h.number is)) (open_at is (statement_key st)) i (rest d m c.args.count basis) good c.in_ok-opened.ensures.answer found;
       intervals = search rules;
       figures = search rules;
@@ -135,8 +135,8 @@ returns-in_err-figures c =
       answer =
           handed_on c.from_residual-in_err-figures.result c.in_err-figures.field-0.0 c.from_residual-in_err-figures.ensures.1
           ∙ c.in_err-figures.ensures.answer
-          ∙ past_lines c.args.count (settling_checks (basis i)) c.in_ok-check-lines.ensures
-          ∙ past_stamp d m i (check 11 (ltb c.args.count accounts) ∷ settling_checks (basis i)) (c.in_ok-check-stamp.ensures ∙ stamp)
+          ∙ past_lines c.args.count (settling_checks (basis i)) c.in_ok-check_lines.ensures
+          ∙ past_stamp d m i (check 11 (ltb c.args.count accounts) ∷ settling_checks (basis i)) (c.in_ok-check_stamp.ensures ∙ stamp)
           ∙ past_two (is_stamp d m) (not (belongs st h.number is)) (open_at is (statement_key st)) i (rest d m c.args.count basis) good c.in_ok-opened.ensures.answer found;
       intervals = search rules;
       figures = search rules;
@@ -183,13 +183,13 @@ returns c =
     record {
       answer =
           c.in_ok-figures.ensures.answer
-          ∙ past_lines c.args.count (settling_checks (basis i)) c.in_ok-check-lines.ensures
-          ∙ past_stamp d m i (check 11 (ltb c.args.count accounts) ∷ settling_checks (basis i)) (c.in_ok-check-stamp.ensures ∙ stamp)
+          ∙ past_lines c.args.count (settling_checks (basis i)) c.in_ok-check_lines.ensures
+          ∙ past_stamp d m i (check 11 (ltb c.args.count accounts) ∷ settling_checks (basis i)) (c.in_ok-check_stamp.ensures ∙ stamp)
           ∙ past_two (is_stamp d m) (not (belongs st h.number is)) (open_at is (statement_key st)) i (rest d m c.args.count basis) good c.in_ok-opened.ensures.answer found;
       intervals =
           c.in_ok-opened.ensures.writes c.in_ok-row.row (ap key_of (made.0 ∙ moved.kept.0) ∙ lookup-carries interval_named is (statement_key st) i found)
           ∙ ap (λ j. put_row interval_named is (Some j)) (finalised_is opened c.moved-moved.result c.in_ok-row.row d m _ s (as_given _ _ days) (as_given _ _ minute) basis c.in_ok-figures.ensures.figures.uplift.rate moved.kept.0 moved.kept.1 moved.kept.2 moved.phase moved.last made.0 made.1 made.2 made.3 made.4 made.5)
           ∙ ap (λ o. put_row interval_named is (option_map (finalised d m basis) o)) (sym found);
       figures = (i, (found, c.in_ok-figures.ensures.figures));
-      lines = enough c.args.count c.in_ok-check-lines.ensures;
+      lines = enough c.args.count c.in_ok-check_lines.ensures;
     }

@@ -20,8 +20,8 @@ returns c =
     let good : true ≡ inside account_range c.args.participant = search rules in
     record {
       answer =
-          c.sum-credited.ensures.answer
+          c.sum_credited.ensures.answer
           ∙ ap (λ p. first_met (check 15 (not (is_some (credits h p lines))) ∷ [])) same
           ∙ passes (check 1 (not (inside account_range c.args.participant)) ∷ check 11 (ltb (length lines) accounts) ∷ []) (check 15 (not (is_some (credits h (nat_abs c.args.participant) lines))) ∷ []) (lit< tt, (lit< tt, tt)) (two_pass (inside account_range c.args.participant) (length lines) good c.if-lines-lt-ACCOUNTS.false);
-      value = subst (λ p. IfOk c.sum-credited.result (λ m. credits h p lines ≡ Some m.0)) same c.sum-credited.ensures.value;
+      value = subst (λ p. IfOk c.sum_credited.result (λ m. credits h p lines ≡ Some m.0)) same c.sum_credited.ensures.value;
     }

@@ -11,7 +11,7 @@ pub returns : goal.returns
 returns c =
     let prices = c.terms-terms.ensures.prices in
     let standing = c.terms-terms.ensures.house in
-    let same = c.inputs-of-inputs.ensures
+    let same = c.inputs_of-inputs.ensures
     ∙ basis_said c.terms-terms.result (house_says c.args.house.now) c.args.interval.now c.args.facilities.now c.args.loads.now c.args.contracts.now c.args.vestings.now
     (ap (λ p. p.0) prices.0) (ap (λ p. p.0) prices.1) standing.2 standing.0 standing.1 in
     record {

@@ -69,8 +69,8 @@ returns-in_err-opened c =
       lines = search rules;
     }
 
-pub returns-in_err-check-stamp : goal.returns-in_err-check-stamp
-returns-in_err-check-stamp c =
+pub returns-in_err-check_stamp : goal.returns-in_err-check_stamp
+returns-in_err-check_stamp c =
     let call = c.args.call.now in
     let h = house_says c.args.house.now in
     let is = interval_rows c.args.intervals.now in
@@ -81,8 +81,8 @@ returns-in_err-check-stamp c =
     let s = c.in_ok-taken.taken.stamp in
     record {
       answer =
-          handed_on c.from_residual-in_err-check-stamp.result c.in_err-check-stamp.field-0.0 c.from_residual-in_err-check-stamp.ensures.1
-          ∙ stops c.in_err-check-stamp.field-0.0 (preliminary_stamp call i) (check 11 (ltb c.args.count accounts) ∷ settling_checks (basis i)) (c.in_err-check-stamp.ensures ∙ at_stamp call s stamp.0 stamp.1 i)
+          handed_on c.from_residual-in_err-check_stamp.result c.in_err-check_stamp.field-0.0 c.from_residual-in_err-check_stamp.ensures.1
+          ∙ stops c.in_err-check_stamp.field-0.0 (preliminary_stamp call i) (check 11 (ltb c.args.count accounts) ∷ settling_checks (basis i)) (c.in_err-check_stamp.ensures ∙ at_stamp call s stamp.0 stamp.1 i)
           ∙ past_open (not (is_stamped call)) (open_at is (stamped_key call)) i (rest call c.args.count basis) c.in_ok-taken.ensures.answer found;
       intervals = search rules;
       figures = search rules;
@@ -90,8 +90,8 @@ returns-in_err-check-stamp c =
       lines = search rules;
     }
 
-pub returns-in_err-check-lines : goal.returns-in_err-check-lines
-returns-in_err-check-lines c =
+pub returns-in_err-check_lines : goal.returns-in_err-check_lines
+returns-in_err-check_lines c =
     let call = c.args.call.now in
     let h = house_says c.args.house.now in
     let is = interval_rows c.args.intervals.now in
@@ -102,9 +102,9 @@ returns-in_err-check-lines c =
     let s = c.in_ok-taken.taken.stamp in
     record {
       answer =
-          handed_on c.from_residual-in_err-check-lines.result c.in_err-check-lines.field-0.0 c.from_residual-in_err-check-lines.ensures.1
-          ∙ stops c.in_err-check-lines.field-0.0 (check 11 (ltb c.args.count accounts) ∷ []) (settling_checks (basis i)) c.in_err-check-lines.ensures
-          ∙ past_stamp call i (check 11 (ltb c.args.count accounts) ∷ settling_checks (basis i)) (c.in_ok-check-stamp.ensures ∙ at_stamp call s stamp.0 stamp.1 i)
+          handed_on c.from_residual-in_err-check_lines.result c.in_err-check_lines.field-0.0 c.from_residual-in_err-check_lines.ensures.1
+          ∙ stops c.in_err-check_lines.field-0.0 (check 11 (ltb c.args.count accounts) ∷ []) (settling_checks (basis i)) c.in_err-check_lines.ensures
+          ∙ past_stamp call i (check 11 (ltb c.args.count accounts) ∷ settling_checks (basis i)) (c.in_ok-check_stamp.ensures ∙ at_stamp call s stamp.0 stamp.1 i)
           ∙ past_open (not (is_stamped call)) (open_at is (stamped_key call)) i (rest call c.args.count basis) c.in_ok-taken.ensures.answer found;
       intervals = search rules;
       figures = search rules;
@@ -126,8 +126,8 @@ returns-in_err-figures c =
       answer =
           handed_on c.from_residual-in_err-figures.result c.in_err-figures.field-0.0 c.from_residual-in_err-figures.ensures.1
           ∙ c.in_err-figures.ensures.answer
-          ∙ past_lines c.args.count (settling_checks (basis i)) c.in_ok-check-lines.ensures
-          ∙ past_stamp call i (check 11 (ltb c.args.count accounts) ∷ settling_checks (basis i)) (c.in_ok-check-stamp.ensures ∙ at_stamp call s stamp.0 stamp.1 i)
+          ∙ past_lines c.args.count (settling_checks (basis i)) c.in_ok-check_lines.ensures
+          ∙ past_stamp call i (check 11 (ltb c.args.count accounts) ∷ settling_checks (basis i)) (c.in_ok-check_stamp.ensures ∙ at_stamp call s stamp.0 stamp.1 i)
           ∙ past_open (not (is_stamped call)) (open_at is (stamped_key call)) i (rest call c.args.count basis) c.in_ok-taken.ensures.answer found;
       intervals = search rules;
       figures = search rules;
@@ -151,8 +151,8 @@ returns c =
     record {
       answer =
           c.in_ok-figures.ensures.answer
-          ∙ past_lines c.args.count (settling_checks (basis i)) c.in_ok-check-lines.ensures
-          ∙ past_stamp call i (check 11 (ltb c.args.count accounts) ∷ settling_checks (basis i)) (c.in_ok-check-stamp.ensures ∙ at_stamp call s stamp.0 stamp.1 i)
+          ∙ past_lines c.args.count (settling_checks (basis i)) c.in_ok-check_lines.ensures
+          ∙ past_stamp call i (check 11 (ltb c.args.count accounts) ∷ settling_checks (basis i)) (c.in_ok-check_stamp.ensures ∙ at_stamp call s stamp.0 stamp.1 i)
           ∙ past_open (not (is_stamped call)) (open_at is (stamped_key call)) i (rest call c.args.count basis) c.in_ok-taken.ensures.answer found;
       intervals =
           c.in_ok-opened.ensures.writes moved (ap key_of kept.0 ∙ lookup-carries interval_named is _ i c.in_ok-opened.ensures.found)
@@ -160,5 +160,5 @@ returns c =
           ∙ ap (λ o. put_row interval_named is (option_map (moved_to Preliminary call.days call.minute) o)) (sym found);
       figures = λ j e. let same : i ≡ j = some_same i j (sym found ∙ e) in subst (λ k. FiguresAre (basis k) c.in_ok-figures.figures) same c.in_ok-figures.ensures.figures;
       half_hour = c.in_ok-taken.ensures.half_hour;
-      lines = enough c.args.count c.in_ok-check-lines.ensures;
+      lines = enough c.args.count c.in_ok-check_lines.ensures;
     }

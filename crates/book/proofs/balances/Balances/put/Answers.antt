@@ -13,10 +13,10 @@ offset_bounds-self-index c = search rules
 pub bounds-self-index : goal.bounds-self-index
 bounds-self-index c = search rules
 
-pub invariant-of-self : goal.invariant-of-self
-invariant-of-self c =
+pub invariant_of-self : goal.invariant_of-self
+invariant_of-self c =
     let stored : Around balance_limit (to_z w128 (of_z w128 c.args.balance.0)) = omega (arith, ints) in
-    (each_set (pos 0) (λ z. Around balance_limit z) c.args.self.now.cells c.args.index _ c.args.self.now.bounded stored, tt)
+    record { bounded = each_set (pos 0) (λ z. Around balance_limit z) c.args.self.now.cells c.args.index _ c.args.self.now.bounded stored }
 
 pub returns : goal.returns
 returns c =

@@ -5,10 +5,10 @@ use Rattle.book.specs.Meaning.{balance_limit}
 use Rattle.book.proofs.Cells.{at_replicate}
 use Rattle.book.proofs.balances.Balances.zero.Goals as goal
 
-pub invariant-of-result : goal.invariant-of-result
-invariant-of-result c =
+pub invariant_of-result : goal.invariant_of-result
+invariant_of-result c =
     let none : Around balance_limit (pos 0) = omega (arith, ints) in
-    (λ k. subst (λ z. Around balance_limit z) (sym (at_replicate accounts k (pos 0))) none, tt)
+    record { bounded = (λ k. subst (λ z. Around balance_limit z) (sym (at_replicate accounts k (pos 0))) none) }
 
 pub returns : goal.returns
 returns c = λ k. at_replicate accounts k (pos 0)

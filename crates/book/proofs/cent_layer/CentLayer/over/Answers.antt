@@ -7,5 +7,5 @@ pub returns : goal.returns
 returns g c = record {
   zeros = λ a h. c.zero.ensures (a - 1);
   kept = refl;
-  in-cents = λ z a h. z a h ∙ sym (ap whole_cents (c.zero.ensures (a - 1)) ∙ no_cents);
+  in_cents = λ z a h. z a h ∙ sym (ap whole_cents (c.zero.ensures (a - 1)) ∙ no_cents);
 }

@@ -7,20 +7,20 @@ use Rattle.book.proofs.Posting.{accepts, shown_account}
 use Rattle.book.proofs.Used.{used-filled, tidy-filled, fill-raises, fill-line}
 use Rattle.book.proofs.passbook.PassbookBook.post.Goals as goal
 
-pub invariant-of-self : goal.invariant-of-self
-invariant-of-self c =
+pub invariant_of-self : goal.invariant_of-self
+invariant_of-self c =
     let ls = c.args.self.now.lines.now in
     let a = c.args.account in
     let shown : c.in_ok-balance.balance.0 ≡ balance_in ls a = c.in_ok-balance.ensures.value in
     let known : Account a = shown_account (balance_in ls) a c.in_ok-balance.balance c.in_ok-balance.ensures in
     let old = balance_around ls a in
     let sum = c.in_ok-after.ensures in
-    (known, (omega (arith, ints, shown, old, sum.0, sum.1), (sum.1, tt)))
+    record { account_ok = known; amount_ok = omega (arith, ints, shown, old, sum.0, sum.1); after_ok = sum.1 }
 
-pub invariant-of-self-2 : goal.invariant-of-self-2
-invariant-of-self-2 c =
+pub invariant_of-self-2 : goal.invariant_of-self-2
+invariant_of-self-2 c =
     let s = c.args.self.now in
-    (used-filled s.lines.now s.used _ s.counted s.tidy (omega arith), (tidy-filled s.lines.now s.used _ s.counted s.tidy (omega arith), tt))
+    record { counted = used-filled s.lines.now s.used _ s.counted s.tidy (omega arith); tidy = tidy-filled s.lines.now s.used _ s.counted s.tidy (omega arith) }
 
 pub returns : goal.returns
 returns c =

@@ -42,16 +42,16 @@ returns-in_err-interval c =
       intervals = search rules;
     }
 
-pub returns-in_err-check-after : goal.returns-in_err-check-after
-returns-in_err-check-after c =
+pub returns-in_err-check_after : goal.returns-in_err-check_after
+returns-in_err-check_after c =
     let call = c.args.call.now in
     let h = house_says c.args.self.now in
     let is = interval_rows c.args.intervals.now in
     let k = given_key c.in_ok-interval.interval call c.in_ok-interval.ensures.row in
     record {
       answer =
-          handed_on c.from_residual-in_err-check-after.result c.in_err-check-after.field-0.0 c.from_residual-in_err-check-after.ensures.1
-          ∙ stops c.in_err-check-after.field-0.0 (three call h.latest ∷ []) (ten call is ∷ []) (c.in_err-check-after.ensures ∙ ap (λ q. first_met (check 3 (not_after q h.latest) ∷ [])) k)
+          handed_on c.from_residual-in_err-check_after.result c.in_err-check_after.field-0.0 c.from_residual-in_err-check_after.ensures.1
+          ∙ stops c.in_err-check_after.field-0.0 (three call h.latest ∷ []) (ten call is ∷ []) (c.in_err-check_after.ensures ∙ ap (λ q. first_met (check 3 (not_after q h.latest) ∷ [])) k)
           ∙ passes (check 1 (not (is_interval call)) ∷ []) (three call h.latest ∷ ten call is ∷ []) (lit< tt, tt) c.in_ok-interval.ensures.answer;
       house = search rules;
       intervals = search rules;
@@ -66,15 +66,15 @@ last_check call latest rows i n k one after h =
     ∙ passes (three call latest ∷ []) (ten call (interval_rows rows) ∷ []) (lit< tt, tt) (after ∙ ap (λ q. first_met (check 3 (not_after q latest) ∷ [])) k)
     ∙ passes (check 1 (not (is_interval call)) ∷ []) (three call latest ∷ ten call (interval_rows rows) ∷ []) (lit< tt, tt) one
 
-pub returns-in_err-put-row : goal.returns-in_err-put-row
-returns-in_err-put-row c =
+pub returns-in_err-put_row : goal.returns-in_err-put_row
+returns-in_err-put_row c =
     let call = c.args.call.now in
     let h = house_says c.args.self.now in
     let k = given_key c.in_ok-interval.interval call c.in_ok-interval.ensures.row in
     record {
       answer =
-          handed_on c.from_residual-in_err-put-row.result c.in_err-put-row.field-0.0 c.from_residual-in_err-put-row.ensures.1
-          ∙ last_check call h.latest c.args.intervals.now c.in_ok-interval.interval _ k c.in_ok-interval.ensures.answer c.in_ok-check-after.ensures c.in_err-put-row.ensures.answer;
+          handed_on c.from_residual-in_err-put_row.result c.in_err-put_row.field-0.0 c.from_residual-in_err-put_row.ensures.1
+          ∙ last_check call h.latest c.args.intervals.now c.in_ok-interval.interval _ k c.in_ok-interval.ensures.answer c.in_ok-check_after.ensures c.in_err-put_row.ensures.answer;
       house = search rules;
       intervals = search rules;
     }
@@ -88,7 +88,7 @@ returns c =
     let given = c.in_ok-interval.ensures.row in
     let k = given_key i call given in
     record {
-      answer = last_check call h.latest rows i _ k c.in_ok-interval.ensures.answer c.in_ok-check-after.ensures c.in_ok-put-row.ensures.answer;
+      answer = last_check call h.latest rows i _ k c.in_ok-interval.ensures.answer c.in_ok-check_after.ensures c.in_ok-put_row.ensures.answer;
       house = ap {B = HouseState} (λ q. record { number = h.number; participants = h.participants; counterparty = h.counterparty; operator = h.operator; latest = Some q; pending = h.pending }) k;
-      intervals = ap interval_rows c.in_ok-put-row.ensures.rows ∙ placed-mapped carried interval_named interval_says (λ r. refl) rows i ∙ ap (placed interval_named (interval_rows rows)) given;
+      intervals = ap interval_rows c.in_ok-put_row.ensures.rows ∙ placed-mapped carried interval_named interval_says (λ r. refl) rows i ∙ ap (placed interval_named (interval_rows rows)) given;
     }

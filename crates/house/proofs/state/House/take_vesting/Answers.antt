@@ -43,34 +43,34 @@ returns-in_err-row c =
       vestings = search rules;
     }
 
-pub returns-in_err-check-apart : goal.returns-in_err-check-apart
-returns-in_err-check-apart c =
+pub returns-in_err-check_apart : goal.returns-in_err-check_apart
+returns-in_err-check_apart c =
     let call = c.args.call.now in
     let o = open_at (interval_rows c.args.intervals.now) (half_hour_key call.day call.interval) in
     record {
       answer =
-          handed_on c.from_residual-in_err-check-apart.result c.in_err-check-apart.field-0.0 c.from_residual-in_err-check-apart.ensures.1
-          ∙ refused-party (not (is_vesting call)) (eqb (nat_abs call.account) c.args.self.now.opening.counterparty) o (ten call (vesting_rows c.args.vestings.now)) c.in_err-check-apart.field-0.0 c.in_ok-row.ensures.answer
-          (c.in_err-check-apart.ensures ∙ parties_given c.in_ok-row.row call c.args.self.now.opening.counterparty c.in_ok-row.ensures.row);
+          handed_on c.from_residual-in_err-check_apart.result c.in_err-check_apart.field-0.0 c.from_residual-in_err-check_apart.ensures.1
+          ∙ refused-party (not (is_vesting call)) (eqb (nat_abs call.account) c.args.self.now.opening.counterparty) o (ten call (vesting_rows c.args.vestings.now)) c.in_err-check_apart.field-0.0 c.in_ok-row.ensures.answer
+          (c.in_err-check_apart.ensures ∙ parties_given c.in_ok-row.row call c.args.self.now.opening.counterparty c.in_ok-row.ensures.row);
       vestings = search rules;
     }
 
-pub returns-in_err-check-reading : goal.returns-in_err-check-reading
-returns-in_err-check-reading c =
+pub returns-in_err-check_reading : goal.returns-in_err-check_reading
+returns-in_err-check_reading c =
     let call = c.args.call.now in
     let is = interval_rows c.args.intervals.now in
     let given = c.in_ok-row.ensures.row in
     record {
       answer =
-          handed_on c.from_residual-in_err-check-reading.result c.in_err-check-reading.field-0.0 c.from_residual-in_err-check-reading.ensures.1
-          ∙ refused-phase (not (is_vesting call)) (eqb (nat_abs call.account) c.args.self.now.opening.counterparty) (open_at is (half_hour_key call.day call.interval)) (ten call (vesting_rows c.args.vestings.now)) c.in_err-check-reading.field-0.0 c.in_ok-row.ensures.answer
-          (c.in_ok-check-apart.ensures ∙ parties_given c.in_ok-row.row call c.args.self.now.opening.counterparty given)
-          (c.in_err-check-reading.ensures ∙ ap (λ k. first_met (if_open (open_at is k) reading_phase)) (half_hour_given c.in_ok-row.row call given));
+          handed_on c.from_residual-in_err-check_reading.result c.in_err-check_reading.field-0.0 c.from_residual-in_err-check_reading.ensures.1
+          ∙ refused-phase (not (is_vesting call)) (eqb (nat_abs call.account) c.args.self.now.opening.counterparty) (open_at is (half_hour_key call.day call.interval)) (ten call (vesting_rows c.args.vestings.now)) c.in_err-check_reading.field-0.0 c.in_ok-row.ensures.answer
+          (c.in_ok-check_apart.ensures ∙ parties_given c.in_ok-row.row call c.args.self.now.opening.counterparty given)
+          (c.in_err-check_reading.ensures ∙ ap (λ k. first_met (if_open (open_at is k) reading_phase)) (half_hour_given c.in_ok-row.row call given));
       vestings = search rules;
     }
 
-pub returns-in_err-put-row : goal.returns-in_err-put-row
-returns-in_err-put-row c =
+pub returns-in_err-put_row : goal.returns-in_err-put_row
+returns-in_err-put_row c =
     let call = c.args.call.now in
     let is = interval_rows c.args.intervals.now in
     let rows = c.args.vestings.now in
@@ -78,11 +78,11 @@ returns-in_err-put-row c =
     let given = c.in_ok-row.ensures.row in
     record {
       answer =
-          handed_on c.from_residual-in_err-put-row.result c.in_err-put-row.field-0.0 c.from_residual-in_err-put-row.ensures.1
+          handed_on c.from_residual-in_err-put_row.result c.in_err-put_row.field-0.0 c.from_residual-in_err-put_row.ensures.1
           ∙ past-phase (not (is_vesting call)) (eqb (nat_abs call.account) c.args.self.now.opening.counterparty) (open_at is (half_hour_key call.day call.interval)) (ten call (vesting_rows rows)) _ c.in_ok-row.ensures.answer
-          (c.in_ok-check-apart.ensures ∙ parties_given r call c.args.self.now.opening.counterparty given)
-          (c.in_ok-check-reading.ensures ∙ ap (λ k. first_met (if_open (open_at is k) reading_phase)) (half_hour_given r call given))
-          (c.in_err-put-row.ensures.answer ∙ place_check carried vesting_named vesting_says (λ x. refl) rows (carried r) (vesting_given call).key (ap (λ s. s.key) given));
+          (c.in_ok-check_apart.ensures ∙ parties_given r call c.args.self.now.opening.counterparty given)
+          (c.in_ok-check_reading.ensures ∙ ap (λ k. first_met (if_open (open_at is k) reading_phase)) (half_hour_given r call given))
+          (c.in_err-put_row.ensures.answer ∙ place_check carried vesting_named vesting_says (λ x. refl) rows (carried r) (vesting_given call).key (ap (λ s. s.key) given));
       vestings = search rules;
     }
 
@@ -96,8 +96,8 @@ returns c =
     record {
       answer =
           past-phase (not (is_vesting call)) (eqb (nat_abs call.account) c.args.self.now.opening.counterparty) (open_at is (half_hour_key call.day call.interval)) (ten call (vesting_rows rows)) _ c.in_ok-row.ensures.answer
-          (c.in_ok-check-apart.ensures ∙ parties_given r call c.args.self.now.opening.counterparty given)
-          (c.in_ok-check-reading.ensures ∙ ap (λ k. first_met (if_open (open_at is k) reading_phase)) (half_hour_given r call given))
-          (c.in_ok-put-row.ensures.answer ∙ place_check carried vesting_named vesting_says (λ x. refl) rows (carried r) (vesting_given call).key (ap (λ s. s.key) given));
-      vestings = ap vesting_rows c.in_ok-put-row.ensures.rows ∙ placed-mapped carried vesting_named vesting_says (λ x. refl) rows r ∙ ap (placed vesting_named (vesting_rows rows)) given;
+          (c.in_ok-check_apart.ensures ∙ parties_given r call c.args.self.now.opening.counterparty given)
+          (c.in_ok-check_reading.ensures ∙ ap (λ k. first_met (if_open (open_at is k) reading_phase)) (half_hour_given r call given))
+          (c.in_ok-put_row.ensures.answer ∙ place_check carried vesting_named vesting_says (λ x. refl) rows (carried r) (vesting_given call).key (ap (λ s. s.key) given));
+      vestings = ap vesting_rows c.in_ok-put_row.ensures.rows ∙ placed-mapped carried vesting_named vesting_says (λ x. refl) rows r ∙ ap (placed vesting_named (vesting_rows rows)) given;
     }

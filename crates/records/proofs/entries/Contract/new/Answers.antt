@@ -16,20 +16,14 @@ returns-in_err-bif c =
     let p = err_from_is_err_and c.from_residual-in_err-bif.result c.from_residual-in_err-bif.ensures.1 in
     record { made = search rules; accepts = ap is_ok p.1 ∙ sym (and_right _ _ (told fraction_range c.args.bif _ c.ranges.bif c.in_err-bif.ensures.accepts)) }
 
-pub invariant-of-result : goal.invariant-of-result
-invariant-of-result c = (
-  omega (arith, ints, c.in_ok-seller.ensures.made.1),
-  (
-    omega (arith, ints, c.in_ok-buyer.ensures.made.1),
-    (
-      omega (arith, ints, c.in_ok-take.ensures.made.1),
-      (
-        omega (arith, ints, c.in_ok-bwf.ensures.made.1),
-        (omega (arith, ints, c.in_ok-bif.ensures.made.1), tt),
-      ),
-    ),
-  ),
-)
+pub invariant_of-result : goal.invariant_of-result
+invariant_of-result c = record {
+  seller_ok = omega (arith, ints, c.in_ok-seller.ensures.made.1);
+  buyer_ok = omega (arith, ints, c.in_ok-buyer.ensures.made.1);
+  baq_ok = omega (arith, ints, c.in_ok-take.ensures.made.1);
+  bwf_ok = omega (arith, ints, c.in_ok-bwf.ensures.made.1);
+  bif_ok = omega (arith, ints, c.in_ok-bif.ensures.made.1);
+}
 
 pub returns : goal.returns
 returns c = record {

@@ -11,20 +11,14 @@ returns-in_err-operator c =
     let p = err_from_is_err_and c.from_residual-in_err-operator.result c.from_residual-in_err-operator.ensures.1 in
     record { made = search rules; accepts = ap is_ok p.1 ∙ sym (and_right _ _ (told account_range c.args.operator _ c.ranges.operator c.in_err-operator.ensures.accepts)) }
 
-pub invariant-of-result : goal.invariant-of-result
-invariant-of-result c = (
-  omega (arith, ints, c.in_ok-take.ensures.made.1),
-  (
-    omega (arith, ints, c.in_ok-take-2.ensures.made.1),
-    (
-      omega (arith, ints, c.in_ok-counterparty.ensures.made.1),
-      (
-        omega (arith, ints, c.in_ok-operator.ensures.made.1),
-        (omega (arith, ints), tt),
-      ),
-    ),
-  ),
-)
+pub invariant_of-result : goal.invariant_of-result
+invariant_of-result c = record {
+  usep_ok = omega (arith, ints, c.in_ok-take.ensures.made.1);
+  rate_ok = omega (arith, ints, c.in_ok-take-2.ensures.made.1);
+  counterparty_ok = omega (arith, ints, c.in_ok-counterparty.ensures.made.1);
+  operator_ok = omega (arith, ints, c.in_ok-operator.ensures.made.1);
+  pending_ok = omega (arith, ints);
+}
 
 pub returns : goal.returns
 returns c = record {

@@ -6,7 +6,7 @@ use Rattle.register.proofs.register.Register.vacate.Goals as goal
 pub returns : goal.returns
 returns g c =
     record {
-      rows = c.vacate-in.ensures;
-      keys = λ q. ap (λ xs. lookup g.R.Row.carried xs q) c.vacate-in.ensures ∙ vacated-keys g.R.Row.carried c.args.self.now.rows.now c.args.half_hour.day c.args.half_hour.interval q;
+      rows = c.vacate_in.ensures;
+      keys = λ q. ap (λ xs. lookup g.R.Row.carried xs q) c.vacate_in.ensures ∙ vacated-keys g.R.Row.carried c.args.self.now.rows.now c.args.half_hour.day c.args.half_hour.interval q;
       lender = refl {a = c.args.self.now.rows.ghost_name};
     }
