@@ -15,7 +15,7 @@ FIGURES = ["GESC", "LESD", "BEQ", "BSC", "VCRP", "VCSC", "FEE", "HEUA", "HEUR", 
 BY_HAND = {f: f.lower() + "_of" for f in FIGURES}
 # what a row says is named apart from the row, and the worked half hour apart from a key's
 BY_HAND.update({k + "-row": k + "Said" for k in ("Interval", "Facility", "Load", "Contract", "Vesting")})
-BY_HAND.update({"half-hour": "worked_half_hour"})
+BY_HAND.update({"half-hour": "worked_half_hour", "IEQ-around": "summed_ieq_around"})
 BY_HAND.update({"own-VCSC": "own_vcsc_of", "own-FEE": "own_fee_of", "WEQ-at": "weq_at", "WFQ-at": "wfq_at"})
 
 # names that a clause gives to a type
@@ -62,7 +62,10 @@ def names():
             if not m or line.lstrip().startswith("--"):
                 continue
             if m["in"] and not (in_record and re.match(r"^  (pub )?[^\s(){}:]+ :", line)):
-                continue
+                # a lemma of a module with parameters: its equation stands below it, as far in
+                below = "^" + m["in"] + re.escape(m["name"]) + r"(\s[^:]*)?\s="
+                if not any(re.match(below, l) for l in lines[n + 1:n + 40]):
+                    continue
             kind, name = (m["kind"] or "").strip(), m["name"]
             if m["type"].startswith("goal."):
                 continue
@@ -81,6 +84,8 @@ def respelled(name, places):
         return BY_HAND[name]
     if not re.search(r"\w-\w", name):
         return name
+    for f in FIGURES:
+        name = re.sub(rf"\b{f}\b", f.lower(), name)
     fact = any(kind in ("record", "data") or is_fact(text) for _, kind, text in places)
     return camel(name) if fact else snake(name)
 

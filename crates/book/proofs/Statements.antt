@@ -44,16 +44,16 @@ module _ (i : ℕ) (held : ℕ → ℤ) (room : ℕ) (amount held₁ : ℕ → �
   pub part_room : i < accounts → postings amount ≤ room → (amount (i + 1) ≡ pos 0 → ⊥) → 0 < room₁
   part_room h q n = omega (arith, p.at_most, counted amount i n, count_grows (i + 1) accounts (is_posted amount) (omega arith))
 
-  part-posted : (held₂ : ℕ → ℤ) (room₂ : ℕ) → (amount (i + 1) ≡ pos 0 → ⊥) → i < accounts → Raised held₁ room₁ (i + 1) (amount (i + 1)) held₂ room₂ → Part (i + 1) held room amount held₂ room₂
-  part-posted held₂ room₂ n h r = record {
+  part_posted : (held₂ : ℕ → ℤ) (room₂ : ℕ) → (amount (i + 1) ≡ pos 0 → ⊥) → i < accounts → Raised held₁ room₁ (i + 1) (amount (i + 1)) held₂ room₂ → Part (i + 1) held room amount held₂ room₂
+  part_posted held₂ room₂ n h r = record {
     done = λ a k m. ⊎_elim (λ e. subst (λ b. held₂ b ≡ held b +ℤ amount b) (sym e) (r.balance ∙ ap (λ z. z +ℤ amount (i + 1)) (p.left (i + 1) (omega arith, omega arith) (omega arith)))) (λ e. r.others a k e ∙ p.done a k (omega arith)) (cases_eq a (i + 1));
     left = λ a k m. r.others a k (λ e. omega arith) ∙ p.left a k (omega arith);
     no_more = omega (arith, r.no_more, p.no_more);
     at_most = omega (arith, r.at_most_one, p.at_most, counted amount i n);
   }
 
-  part-skipped : amount (i + 1) ≡ pos 0 → Part (i + 1) held room amount held₁ room₁
-  part-skipped e = record {
+  part_skipped : amount (i + 1) ≡ pos 0 → Part (i + 1) held room amount held₁ room₁
+  part_skipped e = record {
     done = λ a k m. ⊎_elim (λ q. omega (arith, ints, p.left a k (omega arith), ap amount q, e)) (λ q. p.done a k (omega arith)) (cases_eq a (i + 1));
     left = λ a k m. p.left a k (omega arith);
     no_more = p.no_more;
@@ -61,42 +61,42 @@ module _ (i : ℕ) (held : ℕ → ℤ) (room : ℕ) (amount held₁ : ℕ → �
   }
 
 module _ {S : Type 0} (held : S → ℕ → ℤ) (room : S → ℕ) (takes : S → ℕ → ℤ → S → Type 0) (amount : ℕ → ℤ) (s : S) where
-  pub no-turn : InTurn held room takes amount 0 s s
+  pub no_turn : InTurn held room takes amount 0 s s
   unfolding InTurn
-  no-turn = refl
+  no_turn = refl
 
-  pub next-turn : (i : ℕ) (s' s'' : S) → InTurn held room takes amount i s s' → Turn held room takes (i + 1) (amount (i + 1)) s' s'' → InTurn held room takes amount (i + 1) s s''
+  pub next_turn : (i : ℕ) (s' s'' : S) → InTurn held room takes amount i s s' → Turn held room takes (i + 1) (amount (i + 1)) s' s'' → InTurn held room takes amount (i + 1) s s''
   unfolding InTurn
-  next-turn i s' s'' t u = rw add-one (s', t, rw add-one at u)
+  next_turn i s' s'' t u = rw add-one (s', t, rw add-one at u)
 
-  part-turn : (i : ℕ) (s' s'' : S) → i < accounts → Part i (held s) (room s) amount (held s') (room s') → Turn held room takes (i + 1) (amount (i + 1)) s' s'' → Part (i + 1) (held s) (room s) amount (held s'') (room s'')
-  part-turn i s' s'' h p u = ⊎_elim
-      (λ e. subst (λ x. Part (i + 1) (held s) (room s) amount (held x) (room x)) (sym (u.none e)) (part-skipped i (held s) (room s) amount (held s') (room s') p e))
-      (λ n. part-posted i (held s) (room s) amount (held s') (room s') p (held s'') (room s'') n h (u.once n).after)
+  part_turn : (i : ℕ) (s' s'' : S) → i < accounts → Part i (held s) (room s) amount (held s') (room s') → Turn held room takes (i + 1) (amount (i + 1)) s' s'' → Part (i + 1) (held s) (room s) amount (held s'') (room s'')
+  part_turn i s' s'' h p u = ⊎_elim
+      (λ e. subst (λ x. Part (i + 1) (held s) (room s) amount (held x) (room x)) (sym (u.none e)) (part_skipped i (held s) (room s) amount (held s') (room s') p e))
+      (λ n. part_posted i (held s) (room s) amount (held s') (room s') p (held s'') (room s'') n h (u.once n).after)
       (cases_zero (amount (i + 1)))
 
   -- after the turns of some accounts these have been posted to, and the others not yet
   pub part_of : (n : ℕ) (s' : S) → n ≤ accounts → InTurn held room takes amount n s s' → Part n (held s) (room s) amount (held s') (room s')
   unfolding InTurn
   part_of zero s' h e = subst (λ x. Part 0 (held s) (room s) amount (held x) (room x)) (sym e) (record { done = λ a k m. absurd (omega arith); left = λ a k m. refl; no_more = omega arith; at_most = omega arith })
-  part_of (suc n) s'' h (s', t, u) = rw add-one at (part-turn n s' s'' (omega arith) (part_of n s' (omega arith) t) (rw (← add-one) at u))
+  part_of (suc n) s'' h (s', t, u) = rw add-one at (part_turn n s' s'' (omega arith) (part_of n s' (omega arith) t) (rw (← add-one) at u))
 
   pub settled : (s' : S) → InTurn held room takes amount accounts s s' → Settled (held s) (room s) amount (held s') (room s')
   settled s' t = let p = part_of accounts s' (omega arith) t in record { balances = λ a k. p.done a k k.1; no_more = p.no_more; at_most = p.at_most }
 
 module _ (held : ℕ → ℤ) (room : ℕ) (amount : ℕ → ℤ) where
-  pub refuses-beyond : 0 < count accounts (beyond held amount) → first_met (statement_checks held room amount) ≡ 15
-  refuses-beyond h = simp (lt-ltb 0 (count accounts (beyond held amount)) h)
+  pub refuses_beyond : 0 < count accounts (beyond held amount) → first_met (statement_checks held room amount) ≡ 15
+  refuses_beyond h = simp (lt-ltb 0 (count accounts (beyond held amount)) h)
 
-  pub refuses-places : count accounts (beyond held amount) ≡ 0 → room < postings amount → first_met (statement_checks held room amount) ≡ 16
-  refuses-places e h = simp (e, lt-ltb room (postings amount) h)
+  pub refuses_places : count accounts (beyond held amount) ≡ 0 → room < postings amount → first_met (statement_checks held room amount) ≡ 16
+  refuses_places e h = simp (e, lt-ltb room (postings amount) h)
 
   pub settles : count accounts (beyond held amount) ≡ 0 → postings amount ≤ room → first_met (statement_checks held room amount) ≡ 0
   settles e h = simp (e, le-ltb room (postings amount) h)
 
   -- what is known where no check is met
-  pub none-met : ◌≡◌ {A = ℕ} 0 (first_met (statement_checks held room amount)) → (count accounts (beyond held amount) ≡ 0) × (postings amount ≤ room)
-  none-met e = grind (arith, nat_tests)
+  pub none_met : ◌≡◌ {A = ℕ} 0 (first_met (statement_checks held room amount)) → (count accounts (beyond held amount) ≡ 0) × (postings amount ≤ room)
+  none_met e = grind (arith, nat_tests)
 
 pub all_fine : (held amount : ℕ → ℤ) → count accounts (beyond held amount) ≡ 0 → (a : ℕ) → Account a → Around balance_limit (held a +ℤ amount a)
 all_fine held amount e a h =

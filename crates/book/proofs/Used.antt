@@ -122,27 +122,27 @@ last_set z (Some x ∷ ls) e a t h = last_set (cond (eqb x.account a) x.after.0 
 
 -- the first vacant line, at u, is filled with an entry
 module _ (ls : List (Option Entry)) (u : ℕ) (e : Entry) (q : u ≡ used_lines ls) (t : Tidy ls) (h : u < length ls) where
-  at-used : set ls u (Some e) ≡ set ls (used_lines ls) (Some e)
-  at-used = ap (λ v. set ls v (Some e)) q
+  at_used : set ls u (Some e) ≡ set ls (used_lines ls) (Some e)
+  at_used = ap (λ v. set ls v (Some e)) q
 
-  pub used-filled : u + 1 ≡ used_lines (set ls u (Some e))
-  used-filled = omega (arith, q, used_set ls e t (omega arith), ap used_lines at-used)
+  pub used_filled : u + 1 ≡ used_lines (set ls u (Some e))
+  used_filled = omega (arith, q, used_set ls e t (omega arith), ap used_lines at_used)
 
-  pub tidy-filled : Tidy (set ls u (Some e))
-  tidy-filled k m =
-      let past : u < k = omega (arith, used-filled) in
+  pub tidy_filled : Tidy (set ls u (Some e))
+  tidy_filled k m =
+      let past : u < k = omega (arith, used_filled) in
       get_or-set_other ls u k (Some e) None (λ w. omega arith) ∙ t k (omega arith)
 
-  pub last-filled : (a : ℕ) → balance_in (set ls u (Some e)) a ≡ cond (eqb e.account a) e.after.0 (balance_in ls a)
-  last-filled a = ap (λ l. balance_in l a) at-used ∙ last_set (pos 0) ls e a t (omega arith)
+  pub last_filled : (a : ℕ) → balance_in (set ls u (Some e)) a ≡ cond (eqb e.account a) e.after.0 (balance_in ls a)
+  last_filled a = ap (λ l. balance_in l a) at_used ∙ last_set (pos 0) ls e a t (omega arith)
 
-  pub fill-raises : (amount : ℤ) → e.after.0 ≡ balance_in ls e.account +ℤ amount → Raised (balance_in ls) (free_lines ls) e.account amount (balance_in (set ls u (Some e))) (free_lines (set ls u (Some e)))
-  fill-raises amount s = record {
-    balance = last-filled e.account ∙ cond-true _ _ _ (eq-eqb e.account e.account refl) ∙ s;
-    others = λ b k n. last-filled b ∙ cond-false _ _ _ (ne_eqb e.account b (λ w. n (sym w)));
-    no_more = omega (arith, q, used-filled, length-set ls u (Some e));
-    at_most_one = omega (arith, q, used-filled, length-set ls u (Some e));
+  pub fill_raises : (amount : ℤ) → e.after.0 ≡ balance_in ls e.account +ℤ amount → Raised (balance_in ls) (free_lines ls) e.account amount (balance_in (set ls u (Some e))) (free_lines (set ls u (Some e)))
+  fill_raises amount s = record {
+    balance = last_filled e.account ∙ cond-true _ _ _ (eq-eqb e.account e.account refl) ∙ s;
+    others = λ b k n. last_filled b ∙ cond-false _ _ _ (ne_eqb e.account b (λ w. n (sym w)));
+    no_more = omega (arith, q, used_filled, length-set ls u (Some e));
+    at_most_one = omega (arith, q, used_filled, length-set ls u (Some e));
   }
 
-  pub fill-line : (amount : ℤ) → e.amount.0 ≡ amount → e.after.0 ≡ balance_in ls e.account +ℤ amount → Filled ls e.account amount (set ls u (Some e))
-  fill-line amount p s = record { entry = e; of_account = refl; of_amount = p; of_balance = s; filled = at-used }
+  pub fill_line : (amount : ℤ) → e.amount.0 ≡ amount → e.after.0 ≡ balance_in ls e.account +ℤ amount → Filled ls e.account amount (set ls u (Some e))
+  fill_line amount p s = record { entry = e; of_account = refl; of_amount = p; of_balance = s; filled = at_used }

@@ -18,7 +18,7 @@ use Rattle.records.specs.declared.entries.Contract.{Contract}
 use Rattle.records.specs.declared.entries.Facility.{Facility}
 use Rattle.records.specs.declared.entries.Load.{Load}
 use Rattle.records.specs.declared.entries.Vesting.{Vesting}
-use Rattle.formulas.proofs.Bounds.{InRanges, VCRP-around, injected-up-to, over_around, over_up_to, over-weighted, product_around}
+use Rattle.formulas.proofs.Bounds.{InRanges, vcrp_around, injected_up_to, over_around, over_up_to, over_weighted, product_around}
 use Rattle.formulas.proofs.Conservation.{Parties}
 use Rattle.formulas.proofs.Steps.{sum_step}
 use Rattle.formulas.proofs.Sums.{sum_none}
@@ -88,17 +88,17 @@ totalled_roomy i ok n a x few t = record {
 
 -- what the totals of all facilities are, by the figures' names
 module _ (i : Basis) (a : ℕ) (x : Injected) (t : Totalled i facilities a x) where
-  pub total-IEQ : x.ieq.0 ≡ ieq_of i a
+  pub total_ieq : x.ieq.0 ≡ ieq_of i a
   unfolding ieq_of over
-  total-IEQ = t.ieq
+  total_ieq = t.ieq
 
-  pub total-GESC : x.gesc.0 ≡ gesc_of i a
+  pub total_gesc : x.gesc.0 ≡ gesc_of i a
   unfolding gesc_of over
-  total-GESC = t.gesc
+  total_gesc = t.gesc
 
-  pub total-VCRP : price_from x ≡ vcrp_of i a
+  pub total_vcrp : price_from x ≡ vcrp_of i a
   unfolding vcrp_of over
-  total-VCRP =
+  total_vcrp =
       ap (λ z. cond (eqb (whole z) 0) (nearest x.prices.0 x.count) (nearest x.weighted.0 (whole z))) t.injected
       ∙ ap (λ z. cond (eqb (whole injected) 0) (nearest z x.count) (nearest x.weighted.0 (whole injected))) t.prices
       ∙ ap (λ z. cond (eqb (whole injected) 0) (nearest (upto i facilities a (λ r. r.mep)) (whole z)) (nearest x.weighted.0 (whole injected))) t.count
@@ -111,9 +111,9 @@ module _ (i : Basis) (a : ℕ) (x : Injected) (t : Totalled i facilities a x) wh
 pub totalled_priced : (i : Basis) → InRanges i → (a : ℕ) (x : Injected) → Totalled i facilities a x → Priced x
 unfolding over
 totalled_priced i ok a x t = record {
-  injected = omega (arith, ints, t.injected, injected-up-to i ok a);
-  nothing = λ none. omega (arith, ints, t.count, t.prices, over-weighted i ok a (λ r. r.mep) (λ r. pos 1) (λ r h. omega (arith, ints)));
-  price = rw (total-VCRP i a x t) (VCRP-around i ok a);
+  injected = omega (arith, ints, t.injected, injected_up_to i ok a);
+  nothing = λ none. omega (arith, ints, t.count, t.prices, over_weighted i ok a (λ r. r.mep) (λ r. pos 1) (λ r h. omega (arith, ints)));
+  price = rw (total_vcrp i a x t) (vcrp_around i ok a);
 }
 
 -- the totals of an account

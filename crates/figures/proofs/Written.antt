@@ -16,8 +16,8 @@ use Rattle.records.specs.declared.inputs.Inputs.{Inputs}
 use Rattle.figures.specs.declared.line.Line.{Line}
 use Rattle.records.specs.declared.entries.Load.{Load}
 use Rattle.figures.specs.declared.worked.Sums.{Sums}
-use Rattle.formulas.proofs.Bounds.{BSC-around, FEE-around, GESC-around, HEUC-around, LESD-around, NASC-around, VCSC-around, WEQ-up-to, borne-upto-around, loads-up-to, loads-within}
-use Rattle.figures.proofs.Gathered.{weq_at, inputs_in_ranges, total-GESC}
+use Rattle.formulas.proofs.Bounds.{bsc_around, fee_around, gesc_around, heuc_around, lesd_around, nasc_around, vcsc_around, weq_up_to, borne_upto_around, loads_up_to, loads_within}
+use Rattle.figures.proofs.Gathered.{weq_at, inputs_in_ranges, total_gesc}
 use Rattle.formulas.proofs.Shares.{share_is}
 use Rattle.formulas.proofs.Steps.{sum_next}
 
@@ -40,7 +40,7 @@ pub six_at : (i : Inputs) (s : Sums) (k : ℕ) (o : Option Load) (w l h : ℤ) �
     → Six (basis_of i) (suc k) (get_or s.injected k nothing_injected).gesc.0 l (amount_at s.contracts (suc k)) (amount_at s.vesting (suc k)) (amount_at s.fees (suc k)) h
 unfolding lesd_of
 six_at i s k o w l h lt within ok drawn paid share = record {
-  gesc = total-GESC _ _ _ (ok.injected k lt);
+  gesc = total_gesc _ _ _ (ok.injected k lt);
   lesd = paid ∙ ap (λ z. i.usep.0 *ℤ z) (drawn_at i k o w within drawn);
   bsc = ok.contracts (suc k) (omega arith);
   vcsc = ok.vesting (suc k) (omega arith);
@@ -50,15 +50,15 @@ six_at i s k o w l h lt within ok drawn paid share = record {
 
 module _ (i : Inputs) (k : ℕ) (lt : k < accounts) (g l b v f h : ℤ) (six : Six (basis_of i) (suc k) g l b v f h) where
   -- no figure passes the bound of a line
-  pub six-around : Around 1000000000000000000 g × Around 1000000000000000000 l × Around 1000000000000000000 b × Around 1000000000000000000 v × Around 1000000000000000000 f × Around 1000000000000000000 h
-  six-around =
+  pub six_around : Around 1000000000000000000 g × Around 1000000000000000000 l × Around 1000000000000000000 b × Around 1000000000000000000 v × Around 1000000000000000000 f × Around 1000000000000000000 h
+  six_around =
       let ok = inputs_in_ranges i in (
-        omega (arith, ints, six.gesc, GESC-around (basis_of i) ok (suc k)),
-        omega (arith, ints, six.lesd, LESD-around (basis_of i) ok (suc k)),
-        omega (arith, ints, six.bsc, BSC-around (basis_of i) ok (suc k)),
-        omega (arith, ints, six.vcsc, VCSC-around (basis_of i) ok (suc k)),
-        omega (arith, ints, six.fee, FEE-around (basis_of i) ok (suc k)),
-        omega (arith, ints, six.heuc, HEUC-around (basis_of i) ok (suc k) (omega arith)),
+        omega (arith, ints, six.gesc, gesc_around (basis_of i) ok (suc k)),
+        omega (arith, ints, six.lesd, lesd_around (basis_of i) ok (suc k)),
+        omega (arith, ints, six.bsc, bsc_around (basis_of i) ok (suc k)),
+        omega (arith, ints, six.vcsc, vcsc_around (basis_of i) ok (suc k)),
+        omega (arith, ints, six.fee, fee_around (basis_of i) ok (suc k)),
+        omega (arith, ints, six.heuc, heuc_around (basis_of i) ok (suc k) (omega arith)),
       )
 
   pub net_is : (n : ℤ) → n ≡ g -ℤ l +ℤ b +ℤ v -ℤ f -ℤ h → n ≡ nasc_of (basis_of i) (suc k)
@@ -69,8 +69,8 @@ module _ (i : Inputs) (k : ℕ) (lt : k < accounts) (g l b v f h : ℤ) (six : S
       ∙ ap (λ z. gesc_of (basis_of i) (suc k) -ℤ lesd_of (basis_of i) (suc k) +ℤ bsc_of (basis_of i) (suc k) +ℤ vcsc_of (basis_of i) (suc k) -ℤ z -ℤ h) six.fee
       ∙ ap (λ z. gesc_of (basis_of i) (suc k) -ℤ lesd_of (basis_of i) (suc k) +ℤ bsc_of (basis_of i) (suc k) +ℤ vcsc_of (basis_of i) (suc k) -ℤ fee_of (basis_of i) (suc k) -ℤ z) six.heuc
 
-  pub net-around : (n : ℤ) → n ≡ g -ℤ l +ℤ b +ℤ v -ℤ f -ℤ h → Around 1000000000000000000 n
-  net-around n e = rw (net_is n e) (NASC-around (basis_of i) (inputs_in_ranges i) (suc k) (omega arith))
+  pub net_around : (n : ℤ) → n ≡ g -ℤ l +ℤ b +ℤ v -ℤ f -ℤ h → Around 1000000000000000000 n
+  net_around n e = rw (net_is n e) (nasc_around (basis_of i) (inputs_in_ranges i) (suc k) (omega arith))
 
 -- one line more
 pub lines_more : (i : Basis) (lines : List Line) (n : ℕ) (l : Line) → n < length lines → ((k : ℕ) → k < n → (d : Line) → LineIs i (suc k) (get_or lines k d)) → LineIs i (suc n) l
@@ -87,17 +87,17 @@ pub load_more : (i : Inputs) (k : ℕ) (u w : ℤ) → k < accounts → u ≡ su
 load_more i k u w lt p q =
     let ok = inputs_in_ranges i in
     let next = sum_next k (weq_of (basis_of i)) in
-    let few = loads-up-to (basis_of i) ok k in
-    let one = WEQ-up-to (basis_of i) ok (suc k) in
-    (omega (arith, ints), omega (arith, ints), loads-within (basis_of i) ok (k + 1) (omega arith))
+    let few = loads_up_to (basis_of i) ok k in
+    let one = weq_up_to (basis_of i) ok (suc k) in
+    (omega (arith, ints), omega (arith, ints), loads_within (basis_of i) ok (k + 1) (omega arith))
 
 -- an account's share, as the code holds it
 pub share_more : (i : Inputs) (k : ℕ) (b before : ℤ) → k < accounts → b ≡ borne (heua_of (basis_of i)) (total_load (basis_of i)) (sum (k + 1) (weq_of (basis_of i))) → before ≡ borne (heua_of (basis_of i)) (total_load (basis_of i)) (sum k (weq_of (basis_of i)))
     → SFits w128 (to_z w128 (of_z w128 b) -ℤ before) × (to_z w128 (of_z w128 (to_z w128 (of_z w128 b) -ℤ before)) ≡ heuc_of (basis_of i) (suc k))
 share_more i k b before lt p q =
     let ok = inputs_in_ranges i in
-    let one = borne-upto-around (basis_of i) ok (k + 1) (omega arith) in
-    let two = borne-upto-around (basis_of i) ok k (omega arith) in
+    let one = borne_upto_around (basis_of i) ok (k + 1) (omega arith) in
+    let two = borne_upto_around (basis_of i) ok k (omega arith) in
     let share : heuc_of (basis_of i) (suc k) ≡ b -ℤ before =
     share_is (basis_of i) k ∙ ap (λ n. borne (heua_of (basis_of i)) (total_load (basis_of i)) (sum n (weq_of (basis_of i))) -ℤ borne (heua_of (basis_of i)) (total_load (basis_of i)) (sum k (weq_of (basis_of i)))) (sym (add-one k))
     ∙ ap (λ z. z -ℤ borne (heua_of (basis_of i)) (total_load (basis_of i)) (sum k (weq_of (basis_of i)))) (sym p) ∙ ap (λ z. b -ℤ z) (sym q) in

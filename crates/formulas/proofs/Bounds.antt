@@ -95,17 +95,17 @@ borne_around A (suc w) h c k l =
 -- sums over the facilities of an account
 
 module _ (a : ℕ) (f : Injection → ℤ) where
-  of-account-around : (B : ℕ) (o : Option Injection) → IfSome o (λ r. Around B (f r)) → Around B (of_account a f o)
-  of-account-around B None h = omega (arith, ints)
-  of-account-around B (Some r) h = by (eqb r.account a)
+  of_account_around : (B : ℕ) (o : Option Injection) → IfSome o (λ r. Around B (f r)) → Around B (of_account a f o)
+  of_account_around B None h = omega (arith, ints)
+  of_account_around B (Some r) h = by (eqb r.account a)
     where
       by : (t : Bool) → Around B (cond t (f r) (pos 0))
       by true = h
       by false = omega (arith, ints)
 
-  of-account-up-to : (B : ℕ) (o : Option Injection) → IfSome o (λ r. Within (pos 0) (pos B) (f r)) → Within (pos 0) (pos B) (of_account a f o)
-  of-account-up-to B None h = omega (arith, ints)
-  of-account-up-to B (Some r) h = by (eqb r.account a)
+  of_account_up_to : (B : ℕ) (o : Option Injection) → IfSome o (λ r. Within (pos 0) (pos B) (f r)) → Within (pos 0) (pos B) (of_account a f o)
+  of_account_up_to B None h = omega (arith, ints)
+  of_account_up_to B (Some r) h = by (eqb r.account a)
     where
       by : (t : Bool) → Within (pos 0) (pos B) (cond t (f r) (pos 0))
       by true = h
@@ -118,10 +118,10 @@ by_case (Some x) f h = f x h
 
 -- f summed over the first n facilities, those of account a
 pub over_around : (i : Basis) → InRanges i → (n B a : ℕ) (f : Injection → ℤ) → ((r : Injection) → Around 1000000 r.mep × Around 10000000 r.ieq → Around B (f r)) → Around (n * B) (sum n (λ m. of_account a f (i.facility m)))
-over_around i k n B a f h = sum_within n B _ (λ m _ _. of-account-around a f B (i.facility m) (by_case (i.facility m) h (k.facility m)))
+over_around i k n B a f h = sum_within n B _ (λ m _ _. of_account_around a f B (i.facility m) (by_case (i.facility m) h (k.facility m)))
 
 pub over_up_to : (i : Basis) → InRanges i → (n B a : ℕ) (f : Injection → ℤ) → ((r : Injection) → Around 1000000 r.mep × Around 10000000 r.ieq → Within (pos 0) (pos B) (f r)) → Within (pos 0) (pos (n * B)) (sum n (λ m. of_account a f (i.facility m)))
-over_up_to i k n B a f h = sum_up_to n B _ (λ m _ _. of-account-up-to a f B (i.facility m) (by_case (i.facility m) h (k.facility m)))
+over_up_to i k n B a f h = sum_up_to n B _ (λ m _ _. of_account_up_to a f B (i.facility m) (by_case (i.facility m) h (k.facility m)))
 
 -- x lies no further from 0 than P times y
 abbrev pub Weighted : ℕ → ℤ → ℤ → Type 0
@@ -159,43 +159,43 @@ average_around P x (negsuc n) some h k = absurd (omega (arith, ints))
 -- the figures
 
 module _ (i : Basis) (k : InRanges i) where
-  pub GESC-around : (a : ℕ) → Around 1280000000000000 (gesc_of i a)
+  pub gesc_around : (a : ℕ) → Around 1280000000000000 (gesc_of i a)
   unfolding gesc_of over
-  GESC-around a = over_around i k facilities 10000000000000 a (λ r. r.mep *ℤ r.ieq) (λ r h. product_around 1000000 10000000 r.mep r.ieq h.0 h.1)
+  gesc_around a = over_around i k facilities 10000000000000 a (λ r. r.mep *ℤ r.ieq) (λ r h. product_around 1000000 10000000 r.mep r.ieq h.0 h.1)
 
-  pub IEQ-around : (a : ℕ) → Around 1280000000 (ieq_of i a)
+  pub summed_ieq_around : (a : ℕ) → Around 1280000000 (ieq_of i a)
   unfolding ieq_of over
-  IEQ-around a = over_around i k facilities 10000000 a (λ r. r.ieq) (λ r h. h.1)
+  summed_ieq_around a = over_around i k facilities 10000000 a (λ r. r.ieq) (λ r h. h.1)
 
-  load-up-to : (f : Withdrawal → ℤ) (o : Option Withdrawal) → IfSome o (λ l. Within (pos 0) (pos 10000000) (f l)) → Within (pos 0) (pos 10000000) (of_load f o)
-  load-up-to f None h = omega (arith, ints)
-  load-up-to f (Some l) h = h
+  load_up_to : (f : Withdrawal → ℤ) (o : Option Withdrawal) → IfSome o (λ l. Within (pos 0) (pos 10000000) (f l)) → Within (pos 0) (pos 10000000) (of_load f o)
+  load_up_to f None h = omega (arith, ints)
+  load_up_to f (Some l) h = h
 
-  pub WEQ-up-to : (a : ℕ) → Within (pos 0) (pos 10000000) (weq_of i a)
+  pub weq_up_to : (a : ℕ) → Within (pos 0) (pos 10000000) (weq_of i a)
   unfolding weq_of
-  WEQ-up-to a = load-up-to (λ l. l.weq) (i.load a) (by_case (i.load a) (λ l h. h.0) (k.load a))
+  weq_up_to a = load_up_to (λ l. l.weq) (i.load a) (by_case (i.load a) (λ l h. h.0) (k.load a))
 
-  pub WFQ-up-to : (a : ℕ) → Within (pos 0) (pos 10000000) (wfq_of i a)
+  pub wfq_up_to : (a : ℕ) → Within (pos 0) (pos 10000000) (wfq_of i a)
   unfolding wfq_of
-  WFQ-up-to a = load-up-to (λ l. l.wfq) (i.load a) (by_case (i.load a) (λ l h. h.1) (k.load a))
+  wfq_up_to a = load_up_to (λ l. l.wfq) (i.load a) (by_case (i.load a) (λ l h. h.1) (k.load a))
 
-  pub LESD-around : (a : ℕ) → Around 10000000000000 (lesd_of i a)
+  pub lesd_around : (a : ℕ) → Around 10000000000000 (lesd_of i a)
   unfolding lesd_of
-  LESD-around a = product_around 1000000 10000000 i.usep (weq_of i a) k.usep (omega (arith, ints, WEQ-up-to a))
+  lesd_around a = product_around 1000000 10000000 i.usep (weq_of i a) k.usep (omega (arith, ints, weq_up_to a))
 
-  pub BEQ-up-to : (c : Bilateral) → Within (pos 0) (pos 10000000) c.baq × (c.bwf ≤ 10000) × (c.bif ≤ 10000) → Within (pos 0) (pos 1300000000) (beq_of i c)
+  pub beq_up_to : (c : Bilateral) → Within (pos 0) (pos 10000000) c.baq × (c.bwf ≤ 10000) × (c.bif ≤ 10000) → Within (pos 0) (pos 1300000000) (beq_of i c)
   unfolding beq_of
-  BEQ-up-to c h =
-      let drawn = part_up_to 10000000 c.bwf (weq_of i c.buyer) h.1 (WEQ-up-to c.buyer) in
-      let made = part_up_to 1280000000 c.bif (at_least_0 (ieq_of i c.seller)) h.2 (at_least_0_up_to 1280000000 (ieq_of i c.seller) (IEQ-around c.seller)) in
+  beq_up_to c h =
+      let drawn = part_up_to 10000000 c.bwf (weq_of i c.buyer) h.1 (weq_up_to c.buyer) in
+      let made = part_up_to 1280000000 c.bif (at_least_0 (ieq_of i c.seller)) h.2 (at_least_0_up_to 1280000000 (ieq_of i c.seller) (summed_ieq_around c.seller)) in
       added c.baq (part c.bwf (weq_of i c.buyer)) (part c.bif (at_least_0 (ieq_of i c.seller))) h.0 drawn made
     where
       added : (x y z : ℤ) → Within (pos 0) (pos 10000000) x → Within (pos 0) (pos 10000000) y → Within (pos 0) (pos 1280000000) z → Within (pos 0) (pos 1300000000) (x +ℤ y +ℤ z)
       added x y z f g h = omega (arith, ints)
 
-  pub contract-around : (a : ℕ) (o : Option Bilateral) → IfSome o (λ c. Within (pos 0) (pos 10000000) c.baq × (c.bwf ≤ 10000) × (c.bif ≤ 10000)) → Around 1300000000000000 (from_contract i a o)
-  contract-around a None h = omega (arith, ints)
-  contract-around a (Some c) h = by (eqb c.buyer a) (eqb c.seller a) (i.usep *ℤ beq_of i c) (product_around 1000000 1300000000 i.usep (beq_of i c) k.usep (omega (arith, ints, BEQ-up-to c h)))
+  pub contract_around : (a : ℕ) (o : Option Bilateral) → IfSome o (λ c. Within (pos 0) (pos 10000000) c.baq × (c.bwf ≤ 10000) × (c.bif ≤ 10000)) → Around 1300000000000000 (from_contract i a o)
+  contract_around a None h = omega (arith, ints)
+  contract_around a (Some c) h = by (eqb c.buyer a) (eqb c.seller a) (i.usep *ℤ beq_of i c) (product_around 1000000 1300000000 i.usep (beq_of i c) k.usep (omega (arith, ints, beq_up_to c h)))
     where
       by : (s t : Bool) (x : ℤ) → Around 1300000000000000 x → Around 1300000000000000 (cond s x (pos 0) -ℤ cond t x (pos 0))
       by true true x h = omega (arith, ints)
@@ -203,43 +203,43 @@ module _ (i : Basis) (k : InRanges i) where
       by false true x h = omega (arith, ints)
       by false false x h = omega (arith, ints)
 
-  pub BSC-around : (a : ℕ) → Around 83200000000000000 (bsc_of i a)
+  pub bsc_around : (a : ℕ) → Around 83200000000000000 (bsc_of i a)
   unfolding bsc_of
-  BSC-around a = sum_within contracts 1300000000000000 _ (λ n _ _. contract-around a (i.contract n) (k.contract n))
+  bsc_around a = sum_within contracts 1300000000000000 _ (λ n _ _. contract_around a (i.contract n) (k.contract n))
 
   -- the energy that the account's facilities injected, each from 0
-  pub injected-up-to : (a : ℕ) → Within (pos 0) (pos 1280000000) (over i.facility a (λ r. at_least_0 r.ieq))
+  pub injected_up_to : (a : ℕ) → Within (pos 0) (pos 1280000000) (over i.facility a (λ r. at_least_0 r.ieq))
   unfolding over
-  injected-up-to a = over_up_to i k facilities 10000000 a (λ r. at_least_0 r.ieq) (λ r h. at_least_0_up_to 10000000 r.ieq h.1)
+  injected_up_to a = over_up_to i k facilities 10000000 a (λ r. at_least_0 r.ieq) (λ r h. at_least_0_up_to 10000000 r.ieq h.1)
 
   -- how many facilities the account has
-  pub counted-up-to : (a : ℕ) → Within (pos 0) (pos 128) (over i.facility a (λ r. pos 1))
+  pub counted_up_to : (a : ℕ) → Within (pos 0) (pos 128) (over i.facility a (λ r. pos 1))
   unfolding over
-  counted-up-to a = over_up_to i k facilities 1 a (λ r. pos 1) (λ r h. omega (arith, ints))
+  counted_up_to a = over_up_to i k facilities 1 a (λ r. pos 1) (λ r h. omega (arith, ints))
 
-  pub over-weighted : (a : ℕ) (f g : Injection → ℤ) → ((r : Injection) → Around 1000000 r.mep → Weighted 1000000 (f r) (g r)) → Weighted 1000000 (over i.facility a f) (over i.facility a g)
+  pub over_weighted : (a : ℕ) (f g : Injection → ℤ) → ((r : Injection) → Around 1000000 r.mep → Weighted 1000000 (f r) (g r)) → Weighted 1000000 (over i.facility a f) (over i.facility a g)
   unfolding over
-  over-weighted a f g h = sum_weighted facilities 1000000 _ _ (λ m. of_account_weighted 1000000 a f g (i.facility m) (by_case (i.facility m) (λ r e. h r e.0) (k.facility m)))
+  over_weighted a f g h = sum_weighted facilities 1000000 _ _ (λ m. of_account_weighted 1000000 a f g (i.facility m) (by_case (i.facility m) (λ r e. h r e.0) (k.facility m)))
 
-  pub VCRP-around : (a : ℕ) → Around 1000000 (vcrp_of i a)
+  pub vcrp_around : (a : ℕ) → Around 1000000 (vcrp_of i a)
   unfolding vcrp_of
-  VCRP-around a =
+  vcrp_around a =
       by (eqb (whole (over i.facility a (λ r. at_least_0 r.ieq))) 0) _ _
-      (average_around 1000000 _ _ (omega arith) (counted-up-to a).0 (over-weighted a (λ r. r.mep) (λ r. pos 1) (λ r h. omega (arith, ints))))
-      (average_around 1000000 _ _ (omega arith) (injected-up-to a).0 (over-weighted a (λ r. r.mep *ℤ at_least_0 r.ieq) (λ r. at_least_0 r.ieq) (λ r h. priced 1000000 r.mep r.ieq h)))
+      (average_around 1000000 _ _ (omega arith) (counted_up_to a).0 (over_weighted a (λ r. r.mep) (λ r. pos 1) (λ r h. omega (arith, ints))))
+      (average_around 1000000 _ _ (omega arith) (injected_up_to a).0 (over_weighted a (λ r. r.mep *ℤ at_least_0 r.ieq) (λ r. at_least_0 r.ieq) (λ r h. priced 1000000 r.mep r.ieq h)))
     where
       by : (t : Bool) (x y : ℤ) → Around 1000000 x → Around 1000000 y → Around 1000000 (cond t x y)
       by true x y h k = h
       by false x y h k = k
 
-  pub tranche-around : (p : ℤ) (o : Option Vested) → Around 1000000 p → IfSome o (λ v. Around 1000000 v.price × Within (pos 0) (pos 10000000) v.quantity) → Around 20000000000000 (from_vesting p o)
-  tranche-around p None h j = omega (arith, ints)
-  tranche-around p (Some v) h j = product_around 2000000 10000000 (v.price -ℤ p) v.quantity (omega (arith, ints)) (omega (arith, ints))
+  pub tranche_around : (p : ℤ) (o : Option Vested) → Around 1000000 p → IfSome o (λ v. Around 1000000 v.price × Within (pos 0) (pos 10000000) v.quantity) → Around 20000000000000 (from_vesting p o)
+  tranche_around p None h j = omega (arith, ints)
+  tranche_around p (Some v) h j = product_around 2000000 10000000 (v.price -ℤ p) v.quantity (omega (arith, ints)) (omega (arith, ints))
 
-  pub own-VCSC-around : (a : ℕ) → Around 60000000000000 (own_vcsc_of i a)
+  pub own_vcsc_around : (a : ℕ) → Around 60000000000000 (own_vcsc_of i a)
   unfolding own_vcsc_of
-  own-VCSC-around a =
-      added _ _ _ (tranche-around (vcrp_of i a) (i.vesting a 0) (VCRP-around a) (k.vesting a 0)) (tranche-around (vcrp_of i a) (i.vesting a 1) (VCRP-around a) (k.vesting a 1)) (tranche-around (vcrp_of i a) (i.vesting a 2) (VCRP-around a) (k.vesting a 2))
+  own_vcsc_around a =
+      added _ _ _ (tranche_around (vcrp_of i a) (i.vesting a 0) (vcrp_around a) (k.vesting a 0)) (tranche_around (vcrp_of i a) (i.vesting a 1) (vcrp_around a) (k.vesting a 1)) (tranche_around (vcrp_of i a) (i.vesting a 2) (vcrp_around a) (k.vesting a 2))
     where
       added : (x y z : ℤ) → Around 20000000000000 x → Around 20000000000000 y → Around 20000000000000 z → Around 60000000000000 (x +ℤ y +ℤ z)
       added x y z f g h = omega (arith, ints)
@@ -258,69 +258,69 @@ balanced_around B x f h a = by (eqb a x) (λ b. others (eqb b x) (f b) (h b))
     by false g = omega (arith, ints, h a)
 
 module _ (i : Basis) (k : InRanges i) where
-  pub VCSC-around : (a : ℕ) → Around 5760000000000000 (vcsc_of i a)
+  pub vcsc_around : (a : ℕ) → Around 5760000000000000 (vcsc_of i a)
   unfolding vcsc_of
-  VCSC-around a = balanced_around 60000000000000 i.counterparty (own_vcsc_of i) (own-VCSC-around i k) a
+  vcsc_around a = balanced_around 60000000000000 i.counterparty (own_vcsc_of i) (own_vcsc_around i k) a
 
-  pub own-FEE-around : (a : ℕ) → Around 129000000000000 (own_fee_of i a)
+  pub own_fee_around : (a : ℕ) → Around 129000000000000 (own_fee_of i a)
   unfolding own_fee_of
-  own-FEE-around a = product_around 100000 1290000000 i.rate (ieq_of i a +ℤ wfq_of i a) (omega (arith, ints, k.rate)) (omega (arith, ints, IEQ-around i k a, WFQ-up-to i k a))
+  own_fee_around a = product_around 100000 1290000000 i.rate (ieq_of i a +ℤ wfq_of i a) (omega (arith, ints, k.rate)) (omega (arith, ints, summed_ieq_around i k a, wfq_up_to i k a))
 
-  pub FEE-around : (a : ℕ) → Around 12384000000000000 (fee_of i a)
+  pub fee_around : (a : ℕ) → Around 12384000000000000 (fee_of i a)
   unfolding fee_of
-  FEE-around a = balanced_around 129000000000000 i.operator (own_fee_of i) own-FEE-around a
+  fee_around a = balanced_around 129000000000000 i.operator (own_fee_of i) own_fee_around a
 
-  pub HEUA-around : Around 223840000000000000 (heua_of i)
+  pub heua_around : Around 223840000000000000 (heua_of i)
   unfolding heua_of
-  HEUA-around =
-      added (sum accounts (gesc_of i)) (sum accounts (lesd_of i)) i.pending (sum_within accounts 1280000000000000 (gesc_of i) (λ a _ _. GESC-around i k a)) (sum_within accounts 10000000000000 (lesd_of i) (λ a _ _. LESD-around i k a)) k.pending
+  heua_around =
+      added (sum accounts (gesc_of i)) (sum accounts (lesd_of i)) i.pending (sum_within accounts 1280000000000000 (gesc_of i) (λ a _ _. gesc_around i k a)) (sum_within accounts 10000000000000 (lesd_of i) (λ a _ _. lesd_around i k a)) k.pending
     where
       added : (x y z : ℤ) → Around 122880000000000000 x → Around 960000000000000 y → Around 100000000000000000 z → Around 223840000000000000 (x -ℤ y +ℤ z)
       added x y z f g h = omega (arith, ints)
 
-  pub HEUR-around : Around 223840000000000000 (heur_of i)
+  pub heur_around : Around 223840000000000000 (heur_of i)
   unfolding heur_of
-  HEUR-around = by (total_load i)
+  heur_around = by (total_load i)
     where
       by : (w : ℕ) → Around 223840000000000000 (cond (eqb w 0) (pos 0) (floor (heua_of i) w))
       by zero = omega (arith, ints)
       by (suc w) =
-          let h = HEUA-around in
+          let h = heua_around in
           subst (λ t. Around 223840000000000000 (cond t (pos 0) (floor (heua_of i) (suc w)))) (sym (eqb-suc-zero w)) (floor_around 223840000000000000 (suc w) (heua_of i) (omega arith) (omega (arith, ints)) (omega (arith, ints)))
 
   -- the loads of the first n accounts
-  pub loads-up-to : (n : ℕ) → Within (pos 0) (pos (n * 10000000)) (sum n (weq_of i))
-  loads-up-to n = sum_up_to n 10000000 (weq_of i) (λ a _ _. WEQ-up-to i k a)
+  pub loads_up_to : (n : ℕ) → Within (pos 0) (pos (n * 10000000)) (sum n (weq_of i))
+  loads_up_to n = sum_up_to n 10000000 (weq_of i) (λ a _ _. weq_up_to i k a)
 
-  pub total-load-is : pos (total_load i) ≡ sum accounts (weq_of i)
+  pub total_load_is : pos (total_load i) ≡ sum accounts (weq_of i)
   unfolding total_load
-  total-load-is = from (sum accounts (weq_of i)) (loads-up-to accounts).0
+  total_load_is = from (sum accounts (weq_of i)) (loads_up_to accounts).0
     where
       from : (z : ℤ) → (pos 0) ≤ℤ z → pos (whole z) ≡ z
       from (pos n) h = refl
       from (negsuc n) h = absurd (omega (arith, ints))
 
-  pub total-load-up-to : total_load i ≤ 960000000
-  total-load-up-to = omega (arith, ints, total-load-is, loads-up-to accounts)
+  pub total_load_up_to : total_load i ≤ 960000000
+  total_load_up_to = omega (arith, ints, total_load_is, loads_up_to accounts)
 
   -- the loads of the first n accounts are no more than all
-  pub loads-within : (n : ℕ) → n ≤ accounts → Within (pos 0) (pos (total_load i)) (sum n (weq_of i))
-  loads-within n h = ((loads-up-to n).0, subst (λ x. (sum n (weq_of i)) ≤ℤ x) (sym total-load-is) (sum_grows n accounts (weq_of i) h (λ a _ _. (WEQ-up-to i k a).0)))
+  pub loads_within : (n : ℕ) → n ≤ accounts → Within (pos 0) (pos (total_load i)) (sum n (weq_of i))
+  loads_within n h = ((loads_up_to n).0, subst (λ x. (sum n (weq_of i)) ≤ℤ x) (sym total_load_is) (sum_grows n accounts (weq_of i) h (λ a _ _. (weq_up_to i k a).0)))
 
   -- what the loads of the first n accounts bear
-  pub borne-upto-around : (n : ℕ) → n ≤ accounts → Around 223840000000000000 (borne (heua_of i) (total_load i) (sum n (weq_of i)))
-  borne-upto-around n h = borne_around 223840000000000000 (total_load i) (heua_of i) (sum n (weq_of i)) HEUA-around (loads-within n h)
+  pub borne_upto_around : (n : ℕ) → n ≤ accounts → Around 223840000000000000 (borne (heua_of i) (total_load i) (sum n (weq_of i)))
+  borne_upto_around n h = borne_around 223840000000000000 (total_load i) (heua_of i) (sum n (weq_of i)) heua_around (loads_within n h)
 
-  pub HEUC-around : (a : ℕ) → Account a → Around 447680000000000000 (heuc_of i a)
-  HEUC-around zero h = absurd (omega arith)
-  HEUC-around (suc a) h = subst (Around 447680000000000000) (sym (share_is i a)) (apart _ _ (borne-upto-around (suc a) h.1) (borne-upto-around a (omega arith)))
+  pub heuc_around : (a : ℕ) → Account a → Around 447680000000000000 (heuc_of i a)
+  heuc_around zero h = absurd (omega arith)
+  heuc_around (suc a) h = subst (Around 447680000000000000) (sym (share_is i a)) (apart _ _ (borne_upto_around (suc a) h.1) (borne_upto_around a (omega arith)))
     where
       apart : (x y : ℤ) → Around 223840000000000000 x → Around 223840000000000000 y → Around 447680000000000000 (x -ℤ y)
       apart x y f g = omega (arith, ints)
 
-  pub NASC-around : (a : ℕ) → Account a → Around 1000000000000000000 (nasc_of i a)
+  pub nasc_around : (a : ℕ) → Account a → Around 1000000000000000000 (nasc_of i a)
   unfolding nasc_of
-  NASC-around a h = added _ _ _ _ _ _ (GESC-around i k a) (LESD-around i k a) (BSC-around i k a) (VCSC-around a) (FEE-around a) (HEUC-around a h)
+  nasc_around a h = added _ _ _ _ _ _ (gesc_around i k a) (lesd_around i k a) (bsc_around i k a) (vcsc_around a) (fee_around a) (heuc_around a h)
     where
       added : (x y z u v w : ℤ) → Around 1280000000000000 x → Around 10000000000000 y → Around 83200000000000000 z → Around 5760000000000000 u → Around 12384000000000000 v → Around 447680000000000000 w → Around 1000000000000000000 (x -ℤ y +ℤ z +ℤ u -ℤ v -ℤ w)
       added x y z u v w one two three four five six = omega (arith, ints)

@@ -6,7 +6,7 @@ use Rattle.std.proofs.lemmas.Bool.{and_from, and_left, and_right, ne_eqb, eq-eqb
 use Rattle.records.specs.Meaning.{numbered}
 use Rattle.register.specs.Keys.{Numbers, numbered_key, of_half_hour, same_key, same_list}
 use Rattle.register.specs.Rows.{is_at, lookup}
-use Rattle.register.proofs.Rows.{lookup-past}
+use Rattle.register.proofs.Rows.{lookup_past}
 
 same_list_self : (xs : List ℕ) → same_list xs xs ≡ true
 same_list_self [] = refl
@@ -44,15 +44,15 @@ module _ {R : Type 0} (carried : R → Numbers) where
       go true h = refl
       go false h = h
 
-  pub lookup-more : (xs : List (Option R)) (m : ℕ) (x : Option R) (k : Numbers) → m < length xs → x ≡ get_or xs m x
+  pub lookup_more : (xs : List (Option R)) (m : ℕ) (x : Option R) (k : Numbers) → m < length xs → x ≡ get_or xs m x
       → lookup carried (take (m + 1) xs) k ≡ option_or (lookup carried (take m xs) k) (cond (is_at carried k x) x None)
-  lookup-more xs m x k l e =
+  lookup_more xs m x k l e =
       ap (λ ys. lookup carried ys k) (take_more xs m x l ∙ ap (λ y. take m xs ++ y ∷ []) (sym e)) ∙ lookup_push (take m xs) x k
 
   -- past a row of another key
-  pub lookup-same : (xs : List (Option R)) (m : ℕ) (x : Option R) (k : Numbers) → m < length xs → x ≡ get_or xs m x → is_at carried k x ≡ false
+  pub lookup_same : (xs : List (Option R)) (m : ℕ) (x : Option R) (k : Numbers) → m < length xs → x ≡ get_or xs m x → is_at carried k x ≡ false
       → lookup carried (take (m + 1) xs) k ≡ lookup carried (take m xs) k
-  lookup-same xs m x k l e n = lookup-more xs m x k l e ∙ ap (λ b. option_or (lookup carried (take m xs) k) (cond b x None)) n ∙ other_none (lookup carried (take m xs) k)
+  lookup_same xs m x k l e n = lookup_more xs m x k l e ∙ ap (λ b. option_or (lookup carried (take m xs) k) (cond b x None)) n ∙ other_none (lookup carried (take m xs) k)
 
   -- a row of another half hour does not carry a key of this one
   pub elsewhere : (r : R) (k : Numbers) (d t : ℕ) → k.day ≡ d → k.interval ≡ t → of_half_hour d t (carried r) ≡ false → same_key (carried r) k ≡ false
@@ -77,7 +77,7 @@ module _ {R : Type 0} (carried : R → Numbers) where
         old = lookup carried (take m xs) (keyed i)
 
         more : (b : Bool) → eqb i p ≡ b → lookup carried (take (m + 1) xs) (keyed i) ≡ option_or old (cond b (Some r) None)
-        more b f = lookup-more xs m (Some r) (keyed i) l e ∙ ap (λ c. option_or old (cond c (Some r) None)) (at ∙ f)
+        more b f = lookup_more xs m (Some r) (keyed i) l e ∙ ap (λ c. option_or old (cond c (Some r) None)) (at ∙ f)
 
         go : (b : Bool) → eqb i p ≡ b → option_map meaning (cond b (option_or was (Some v)) was) ≡ option_map seen (lookup carried (take (m + 1) xs) (keyed i))
         go true f =
@@ -92,15 +92,15 @@ nothing_at {H} n i =
 
 module _ {R : Type 0} (carried : R → Numbers) where
   -- where no row can carry the key, there is no such row
-  pub none-carries : (xs : List (Option R)) (k : Numbers) → ((r : R) → same_key (carried r) k ≡ false) → lookup carried xs k ≡ None
+  pub none_carries : (xs : List (Option R)) (k : Numbers) → ((r : R) → same_key (carried r) k ≡ false) → lookup carried xs k ≡ None
   unfolding lookup
-  none-carries [] k h = refl
-  none-carries (None ∷ xs) k h = none-carries xs k h
-  none-carries (Some r ∷ xs) k h = lookup-past carried (Some r) xs k (h r) ∙ none-carries xs k h
+  none_carries [] k h = refl
+  none_carries (None ∷ xs) k h = none_carries xs k h
+  none_carries (Some r ∷ xs) k h = lookup_past carried (Some r) xs k (h r) ∙ none_carries xs k h
 
   module _ (number : R → ℕ) (by : (r : R) → (carried r).more ≡ number r ∷ []) where
-    not-numbered : (r : R) (d t n : ℕ) → (number r ≡ n → ⊥) → same_key (carried r) (numbered_key d t n) ≡ false
-    not-numbered r d t n h =
+    not_numbered : (r : R) (d t n : ℕ) → (number r ≡ n → ⊥) → same_key (carried r) (numbered_key d t n) ≡ false
+    not_numbered r d t n h =
         and_right (of_half_hour d t (carried r)) (same_list (carried r).more (n ∷ []))
         (ap (λ xs. same_list xs (n ∷ [])) (by r) ∙ and_left (eqb (number r) n) true (ne_eqb (number r) n h))
 
@@ -110,8 +110,8 @@ module _ {R : Type 0} (carried : R → Numbers) where
         → ((i : ℕ) → i < last → option_map meaning (get_or held i None) ≡ option_map seen (lookup carried xs (numbered_key d t (suc i))))
         → (n : ℕ) → option_map meaning (numbered held n) ≡ option_map seen (lookup carried xs (numbered_key d t n))
     by_number meaning seen xs held d t last range long h zero =
-        sym (ap (option_map seen) (none-carries xs (numbered_key d t 0) (λ r. not-numbered r d t 0 (λ e. omega (arith, range r)))))
+        sym (ap (option_map seen) (none_carries xs (numbered_key d t 0) (λ r. not_numbered r d t 0 (λ e. omega (arith, range r)))))
     by_number meaning seen xs held d t last range long h (suc i) =
         ⊎_elim (λ l. h i l)
-        (λ l. ap (option_map meaning) (get_or_past held i None (omega arith)) ∙ sym (ap (option_map seen) (none-carries xs (numbered_key d t (suc i)) (λ r. not-numbered r d t (suc i) (λ e. omega (arith, range r))))))
+        (λ l. ap (option_map meaning) (get_or_past held i None (omega arith)) ∙ sym (ap (option_map seen) (none_carries xs (numbered_key d t (suc i)) (λ r. not_numbered r d t (suc i) (λ e. omega (arith, range r))))))
         (cases_lt i last)

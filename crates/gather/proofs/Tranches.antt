@@ -11,7 +11,7 @@ use Rattle.gather.specs.Gathered.{three_at, vested_in, vesting_key}
 use Rattle.register.specs.Keys.{of_half_hour, same_list, tranche_key}
 use Rattle.register.specs.Rows.{lookup}
 use Rattle.rows.specs.declared.vesting.VestingRow.{VestingRow}
-use Rattle.gather.proofs.Passes.{none-carries}
+use Rattle.gather.proofs.Passes.{none_carries}
 
 three_are : (a b c p q r : Option Vesting) → a ≡ p → b ≡ q → c ≡ r → ◌≡◌ {A = Tranches} (record { base = a; first = b; second = c }) (record { base = p; first = q; second = r })
 three_are a b c p q r e f g = cc
@@ -24,7 +24,7 @@ three_read flat k x y z l =
 
 -- no account has a tranche that its number or the tranche's number rules out
 absent : (rows : List (Option VestingRow)) (d t a n : ℕ) → ((r : VestingRow) → r.key.account ≡ a → r.key.tranche ≡ n → ⊥) → lookup vesting_key rows (tranche_key d t a n) ≡ None
-absent rows d t a n h = none-carries vesting_key rows (tranche_key d t a n) (λ r. and_right (of_half_hour d t (vesting_key r)) (same_list (r.key.account ∷ r.key.tranche ∷ []) (a ∷ n ∷ [])) (differ r))
+absent rows d t a n h = none_carries vesting_key rows (tranche_key d t a n) (λ r. and_right (of_half_hour d t (vesting_key r)) (same_list (r.key.account ∷ r.key.tranche ∷ []) (a ∷ n ∷ [])) (differ r))
   where
     differ : (r : VestingRow) → same_list (r.key.account ∷ r.key.tranche ∷ []) (a ∷ n ∷ []) ≡ false
     differ r =

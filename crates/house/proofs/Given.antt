@@ -30,9 +30,9 @@ first_phase FirstAdjusted e = cc
 first_phase SecondAdjusted e = cc
 
 module _ (h : HalfHour) (day interval : ℤ) (d : pos h.day ≡ day) (t : pos h.interval ≡ interval) where
-  pub facility-is : (r : FacilityReading) (c : FacilityCall) → c.day ≡ day → c.interval ≡ interval → r.key.half_hour ≡ h
+  pub facility_is : (r : FacilityReading) (c : FacilityCall) → c.day ≡ day → c.interval ≡ interval → r.key.half_hour ≡ h
       → pos r.key.facility ≡ c.facility → pos r.account ≡ c.account → r.mep.0 ≡ c.mep → r.ieq ≡ uncorrected c.ieq → facility_says r ≡ facility_given c
-  facility-is r c cd ct k f a m q =
+  facility_is r c cd ct k f a m q =
       let d' = as_given h.day day d in
       let t' = as_given h.interval interval t in
       let f' = as_given r.key.facility c.facility f in
@@ -47,9 +47,9 @@ module _ (h : HalfHour) (day interval : ℤ) (d : pos h.day ≡ day) (t : pos h.
       let a' = as_given r.key.account c.account a in
       cc
 
-  pub contract-is : (r : ContractRow) (c : ContractCall) → c.day ≡ day → c.interval ≡ interval → r.key.half_hour ≡ h
+  pub contract_is : (r : ContractRow) (c : ContractCall) → c.day ≡ day → c.interval ≡ interval → r.key.half_hour ≡ h
       → pos r.key.contract ≡ c.contract → pos r.seller ≡ c.seller → pos r.buyer ≡ c.buyer → r.baq.0 ≡ c.baq → pos r.bwf ≡ c.bwf → pos r.bif ≡ c.bif → contract_says r ≡ contract_given c
-  contract-is r c cd ct k n s b q w i =
+  contract_is r c cd ct k n s b q w i =
       let d' = as_given h.day day d in
       let t' = as_given h.interval interval t in
       let n' = as_given r.key.contract c.contract n in
@@ -59,18 +59,18 @@ module _ (h : HalfHour) (day interval : ℤ) (d : pos h.day ≡ day) (t : pos h.
       let i' = as_given r.bif c.bif i in
       cc
 
-  pub vesting-is : (r : VestingRow) (c : VestingCall) → c.day ≡ day → c.interval ≡ interval → r.key.half_hour ≡ h
+  pub vesting_is : (r : VestingRow) (c : VestingCall) → c.day ≡ day → c.interval ≡ interval → r.key.half_hour ≡ h
       → pos r.key.account ≡ c.account → pos r.key.tranche ≡ c.tranche → r.price.0 ≡ c.price → r.quantity.0 ≡ c.quantity → vesting_says r ≡ vesting_given c
-  vesting-is r c cd ct k a n p q =
+  vesting_is r c cd ct k a n p q =
       let d' = as_given h.day day d in
       let t' = as_given h.interval interval t in
       let a' = as_given r.key.account c.account a in
       let n' = as_given r.key.tranche c.tranche n in
       cc
 
-  pub interval-is : (r : Interval) (c : IntervalCall) → c.day ≡ day → c.interval ≡ interval → r.half_hour ≡ h
+  pub interval_is : (r : Interval) (c : IntervalCall) → c.day ≡ day → c.interval ≡ interval → r.half_hour ≡ h
       → r.usep.0 ≡ c.usep → r.rate.0 ≡ c.rate → phase_number r.phase ≡ 1 → r.last.days ≡ 0 → r.last.minute ≡ 0 → r.uplift ≡ None → interval_says r ≡ interval_given c
-  interval-is r c cd ct k u f p n m q =
+  interval_is r c cd ct k u f p n m q =
       let d' = as_given h.day day d in
       let t' = as_given h.interval interval t in
       let p' = first_phase r.phase p in

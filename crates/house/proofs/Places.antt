@@ -3,7 +3,7 @@ use Rattle.std.proofs.Common.{◌≡◌, ℕ, List, map, set, Some, None, Option
 use Rattle.std.specs.Option.{option_map}
 use Rattle.register.specs.Keys.{Numbers}
 use Rattle.register.specs.Rows.{place}
-use Rattle.register.proofs.Mapped.{written-mapped}
+use Rattle.register.proofs.Mapped.{written_mapped}
 use Rattle.rows.specs.Meaning.{FacilitySaid, LoadSaid}
 use Rattle.rows.specs.declared.reading.Sort.{Sort}
 use Rattle.rows.specs.declared.reading.Sort.TheVariants.{Base, First, Second}
@@ -13,7 +13,7 @@ use Rattle.house.specs.Readings.{facility_left, load_left}
 module _ {R S : Type 0} (carried : R → Numbers) (named : S → Numbers) (says : R → S) (same : (r : R) → named (says r) ≡ carried r) where
   pub written : (rows : List (Option R)) (k : Numbers) (i : ℕ) (r : R) (left : Option S) → place carried rows k ≡ Some i → left ≡ Some (says r) → named (says r) ≡ k
       → map (option_map says) (set rows i (Some r)) ≡ put_row named (map (option_map says) rows) left
-  written rows k i r left p e n = written-mapped carried named says same rows i r (ap (place carried rows) (sym (same r) ∙ n) ∙ p) ∙ ap (put_row named (map (option_map says) rows)) (sym e)
+  written rows k i r left p e n = written_mapped carried named says same rows i r (ap (place carried rows) (sym (same r) ∙ n) ∙ p) ∙ ap (put_row named (map (option_map says) rows)) (sym e)
 
 -- the row that a reading leaves has the reading's key
 pub facility_left_key : (new f : FacilitySaid) (s : Sort) (old : Option FacilitySaid) → ((o : FacilitySaid) → old ≡ Some o → o.key ≡ new.key) → facility_left new (Some s) old ≡ Some f → f.key ≡ new.key

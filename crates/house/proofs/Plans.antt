@@ -34,12 +34,12 @@ module _ (d m : ℤ) (s : Stamp) (sd : s.days ≡ nat_abs d) (sm : s.minute ≡ 
       ap (λ x. first_met (check 6 (earlier x s.minute i.days i.minute) ∷ sort_checks (phase_number i.phase) (window x s.minute))) sd
       ∙ ap (λ y. first_met (check 6 (earlier (nat_abs d) y i.days i.minute) ∷ sort_checks (phase_number i.phase) (window (nat_abs d) y))) sm
 
-  pub sort-is : (i : IntervalSaid) (t : Sort) → sort_for (phase_number i.phase) (window s.days s.minute) ≡ Some t → sort_at d m i ≡ Some t
-  sort-is i t e = sym (ap (λ x. sort_for (phase_number i.phase) (window x s.minute)) sd ∙ ap (λ y. sort_for (phase_number i.phase) (window (nat_abs d) y)) sm) ∙ e
+  pub sort_is : (i : IntervalSaid) (t : Sort) → sort_for (phase_number i.phase) (window s.days s.minute) ≡ Some t → sort_at d m i ≡ Some t
+  sort_is i t e = sym (ap (λ x. sort_for (phase_number i.phase) (window x s.minute)) sd ∙ ap (λ y. sort_for (phase_number i.phase) (window (nat_abs d) y)) sm) ∙ e
 
   -- an interval that was moved
-  pub moved-is : (i j : Interval) (p : Phase) → j.half_hour ≡ i.half_hour → j.usep ≡ i.usep → j.rate ≡ i.rate → j.uplift ≡ i.uplift → j.phase ≡ p → j.last ≡ s → interval_says j ≡ moved_to p d m (interval_says i)
-  moved-is i j p h u r l q t = cc
+  pub moved_is : (i j : Interval) (p : Phase) → j.half_hour ≡ i.half_hour → j.usep ≡ i.usep → j.rate ≡ i.rate → j.uplift ≡ i.uplift → j.phase ≡ p → j.last ≡ s → interval_says j ≡ moved_to p d m (interval_says i)
+  moved_is i j p h u r l q t = cc
 
 -- a refusal by the stamp's checks
 pub stamp_refuses : (e : Refusal) (d m : ℤ) (i : IntervalSaid) (more : List Check) → refusal_number e ≡ first_met (stamp_checks d m i []) → refusal_number e ≡ first_met (stamp_checks d m i more)

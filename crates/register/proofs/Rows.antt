@@ -71,20 +71,20 @@ drop_item xs i x l e = drop_more xs i x l ∙ ap (λ y. y ∷ drop (i + 1) xs) (
 
 module _ {R : Type 0} (carried : R → Numbers) where
   -- a row that does not carry the key is passed over
-  pub lookup-past : (x : Option R) (xs : List (Option R)) (k : Numbers) → is_at carried k x ≡ false → lookup carried (x ∷ xs) k ≡ lookup carried xs k
+  pub lookup_past : (x : Option R) (xs : List (Option R)) (k : Numbers) → is_at carried k x ≡ false → lookup carried (x ∷ xs) k ≡ lookup carried xs k
   unfolding lookup
-  lookup-past x xs k e = rw e
+  lookup_past x xs k e = rw e
 
   -- the first row that carries the key is the key's row
-  pub lookup-here : (r : R) (xs : List (Option R)) (k : Numbers) → same_key (carried r) k ≡ true → lookup carried (Some r ∷ xs) k ≡ Some r
+  pub lookup_here : (r : R) (xs : List (Option R)) (k : Numbers) → same_key (carried r) k ≡ true → lookup carried (Some r ∷ xs) k ≡ Some r
   unfolding lookup
-  lookup-here r xs k e = rw e
+  lookup_here r xs k e = rw e
 
   -- a row before two lists, where the key's row differs by a row put
-  lookup-under : (x : Option R) (xs ys : List (Option R)) (q : Numbers) (b : Bool) (r : R) → (b ≡ true → is_at carried q x ≡ false) → lookup carried ys q ≡ cond b (Some r) (lookup carried xs q) → lookup carried (x ∷ ys) q ≡ cond b (Some r) (lookup carried (x ∷ xs) q)
+  lookup_under : (x : Option R) (xs ys : List (Option R)) (q : Numbers) (b : Bool) (r : R) → (b ≡ true → is_at carried q x ≡ false) → lookup carried ys q ≡ cond b (Some r) (lookup carried xs q) → lookup carried (x ∷ ys) q ≡ cond b (Some r) (lookup carried (x ∷ xs) q)
   unfolding lookup
-  lookup-under x xs ys q true r n e = rw (n refl) e
-  lookup-under x xs ys q false r n e = rw e
+  lookup_under x xs ys q true r n e = rw (n refl) e
+  lookup_under x xs ys q false r n e = rw e
 
   -- a row that carries the key carries no other
   at_one : (x : Option R) (k q : Numbers) → is_at carried k x ≡ true → is_at carried q x ≡ same_key k q
@@ -97,15 +97,15 @@ module _ {R : Type 0} (carried : R → Numbers) where
   -- the row over the first row
   over_first : (b : Bool) (x : Option R) (xs : List (Option R)) (r : R) (q : Numbers) → same_key (carried r) q ≡ b → is_at carried (carried r) x ≡ true
       → lookup carried (Some r ∷ xs) q ≡ cond b (Some r) (lookup carried (x ∷ xs) q)
-  over_first true x xs r q e h = lookup-here r xs q e
-  over_first false x xs r q e h = lookup-past (Some r) xs q e ∙ sym (lookup-past x xs q (at_one x (carried r) q h ∙ e))
+  over_first true x xs r q e h = lookup_here r xs q e
+  over_first false x xs r q e h = lookup_past (Some r) xs q e ∙ sym (lookup_past x xs q (at_one x (carried r) q h ∙ e))
 
   -- the row over the key's row
-  over-key : (xs : List (Option R)) (r : R) (q : Numbers) → is_some (first (is_at carried (carried r)) xs) ≡ true
+  over_key : (xs : List (Option R)) (r : R) (q : Numbers) → is_some (first (is_at carried (carried r)) xs) ≡ true
       → lookup carried (put_at (first (is_at carried (carried r)) xs) xs (Some r)) q ≡ cond (same_key (carried r) q) (Some r) (lookup carried xs q)
   unfolding first
-  over-key [] r q h = cc
-  over-key (x ∷ xs) r q h = go (over-key xs r q) (is_at carried (carried r) x) refl h
+  over_key [] r q h = cc
+  over_key (x ∷ xs) r q h = go (over_key xs r q) (is_at carried (carried r) x) refl h
     where
       rest : Option ℕ
       rest = first (is_at carried (carried r)) xs
@@ -116,15 +116,15 @@ module _ {R : Type 0} (carried : R → Numbers) where
       go less true e t = over_first (same_key (carried r) q) x xs r q refl e
       go less false e t =
           ap (λ ys. lookup carried ys q) (put_at_past rest x xs (Some r))
-          ∙ lookup-under x xs (put_at rest xs (Some r)) q (same_key (carried r) q) r (λ s. not_at x (carried r) q e s) (less (mapped_some rest t))
+          ∙ lookup_under x xs (put_at rest xs (Some r)) q (same_key (carried r) q) r (λ s. not_at x (carried r) q e s) (less (mapped_some rest t))
 
   -- the row into the first vacant row, where none carries the key
-  into-vacant : (xs : List (Option R)) (r : R) (q : Numbers) → first (is_at carried (carried r)) xs ≡ None → is_some (first is_vacant xs) ≡ true
+  into_vacant : (xs : List (Option R)) (r : R) (q : Numbers) → first (is_at carried (carried r)) xs ≡ None → is_some (first is_vacant xs) ≡ true
       → lookup carried (put_at (first is_vacant xs) xs (Some r)) q ≡ cond (same_key (carried r) q) (Some r) (lookup carried xs q)
   unfolding first lookup
-  into-vacant [] r q n h = cc
-  into-vacant (None ∷ xs) r q n h = refl
-  into-vacant (Some y ∷ xs) r q n h = go (λ m. into-vacant xs r q m (mapped_some (first is_vacant xs) h)) (same_key (carried y) (carried r)) refl n
+  into_vacant [] r q n h = cc
+  into_vacant (None ∷ xs) r q n h = refl
+  into_vacant (Some y ∷ xs) r q n h = go (λ m. into_vacant xs r q m (mapped_some (first is_vacant xs) h)) (same_key (carried y) (carried r)) refl n
     where
       rest : Option ℕ
       rest = first is_vacant xs
@@ -135,32 +135,32 @@ module _ {R : Type 0} (carried : R → Numbers) where
       go less true e t = cc
       go less false e t =
           ap (λ ys. lookup carried ys q) (put_at_past rest (Some y) xs (Some r))
-          ∙ lookup-under (Some y) xs (put_at rest xs (Some r)) q (same_key (carried r) q) r (λ s. not_at (Some y) (carried r) q e s)
+          ∙ lookup_under (Some y) xs (put_at rest xs (Some r)) q (same_key (carried r) q) r (λ s. not_at (Some y) (carried r) q e s)
           (less (mapped_none (first (is_at carried (carried r)) xs) t))
 
   -- every key's row after a row is put
-  pub put-keys : (xs : List (Option R)) (r : R) (q : Numbers) → is_some (place carried xs (carried r)) ≡ true
+  pub put_keys : (xs : List (Option R)) (r : R) (q : Numbers) → is_some (place carried xs (carried r)) ≡ true
       → lookup carried (placed carried xs r) q ≡ cond (same_key (carried r) q) (Some r) (lookup carried xs q)
-  put-keys xs r q h = go (first (is_at carried (carried r)) xs) refl h
+  put_keys xs r q h = go (first (is_at carried (carried r)) xs) refl h
     where
       go : (o : Option ℕ) → first (is_at carried (carried r)) xs ≡ o → is_some (option_or o (first is_vacant xs)) ≡ true
           → lookup carried (put_at (option_or o (first is_vacant xs)) xs (Some r)) q ≡ cond (same_key (carried r) q) (Some r) (lookup carried xs q)
-      go None e t = into-vacant xs r q e t
-      go (Some i) e t = let m : is_some (first (is_at carried (carried r)) xs) ≡ true = ap is_some e in ap (λ o. lookup carried (put_at o xs (Some r)) q) (sym e) ∙ over-key xs r q m
+      go None e t = into_vacant xs r q e t
+      go (Some i) e t = let m : is_some (first (is_at carried (carried r)) xs) ≡ true = ap is_some e in ap (λ o. lookup carried (put_at o xs (Some r)) q) (sym e) ∙ over_key xs r q m
 
   -- the same by the answer: a refused row changes nothing
-  pub put-law : (before after : List (Option R)) (row : R) (r : Result Unit Refusal) → after ≡ placed carried before row → is_ok r ≡ is_some (place carried before (carried row))
+  pub put_law : (before after : List (Option R)) (row : R) (r : Result Unit Refusal) → after ≡ placed carried before row → is_ok r ≡ is_some (place carried before (carried row))
       → IfErr r (λ e. e ≡ RegisterFull)
       → MatchResult r (λ u. (q : Numbers) → lookup carried after q ≡ cond (same_key (carried row) q) (Some row) (lookup carried before q)) (λ e. (e ≡ RegisterFull) × (after ≡ before))
-  put-law before after row (Ok u) e a f = λ q. ap (λ ys. lookup carried ys q) e ∙ put-keys before row q (sym a)
-  put-law before after row (Err x) e a f = (f, e ∙ put_nowhere (place carried before (carried row)) before (Some row) (sym a))
+  put_law before after row (Ok u) e a f = λ q. ap (λ ys. lookup carried ys q) e ∙ put_keys before row q (sym a)
+  put_law before after row (Err x) e a f = (f, e ∙ put_nowhere (place carried before (carried row)) before (Some row) (sym a))
 
   -- every key's row after a half hour is vacated
-  pub vacated-keys : (xs : List (Option R)) (d t : ℕ) (q : Numbers) → lookup carried (map (vacated carried d t) xs) q ≡ cond (of_half_hour d t q) None (lookup carried xs q)
+  pub vacated_keys : (xs : List (Option R)) (d t : ℕ) (q : Numbers) → lookup carried (map (vacated carried d t) xs) q ≡ cond (of_half_hour d t q) None (lookup carried xs q)
   unfolding lookup
-  vacated-keys [] d t q = elim (of_half_hour d t q) as (λ b. ◌≡◌ {A = Option R} None (cond b None None)) [ true ↦ refl | false ↦ refl ]
-  vacated-keys (None ∷ xs) d t q = vacated-keys xs d t q
-  vacated-keys (Some y ∷ xs) d t q = go (vacated-keys xs d t q) (same_key (carried y) q) (of_half_hour d t (carried y)) refl refl
+  vacated_keys [] d t q = elim (of_half_hour d t q) as (λ b. ◌≡◌ {A = Option R} None (cond b None None)) [ true ↦ refl | false ↦ refl ]
+  vacated_keys (None ∷ xs) d t q = vacated_keys xs d t q
+  vacated_keys (Some y ∷ xs) d t q = go (vacated_keys xs d t q) (same_key (carried y) q) (of_half_hour d t (carried y)) refl refl
     where
       go : lookup carried (map (vacated carried d t) xs) q ≡ cond (of_half_hour d t q) None (lookup carried xs q)
           → (s b : Bool) → same_key (carried y) q ≡ s → of_half_hour d t (carried y) ≡ b
@@ -170,54 +170,54 @@ module _ {R : Type 0} (carried : R → Numbers) where
           less ∙ ap (λ z. cond z None (lookup carried xs q)) f ∙ ap (λ z. cond z None (Some y)) (sym f)
       go less true false e h =
           let f : of_half_hour d t q ≡ false = ap (of_half_hour d t) (sym (same_key_is (carried y) q e)) ∙ h in
-          lookup-here y (map (vacated carried d t) xs) q e ∙ ap (λ z. cond z None (Some y)) (sym f)
+          lookup_here y (map (vacated carried d t) xs) q e ∙ ap (λ z. cond z None (Some y)) (sym f)
       go less false true e h = less
-      go less false false e h = lookup-past (Some y) (map (vacated carried d t) xs) q e ∙ less
+      go less false false e h = lookup_past (Some y) (map (vacated carried d t) xs) q e ∙ less
 
   -- a pass that looks for the key, one row on
-  pub find-more : (xs : List (Option R)) (i : ℕ) (x : Option R) (k : Numbers) → i < length xs → x ≡ get_or xs i x → is_at carried k x ≡ false
+  pub find_more : (xs : List (Option R)) (i : ℕ) (x : Option R) (k : Numbers) → i < length xs → x ≡ get_or xs i x → is_at carried k x ≡ false
       → lookup carried (drop i xs) k ≡ lookup carried xs k → lookup carried (drop (i + 1) xs) k ≡ lookup carried xs k
-  find-more xs i x k l e n h = sym (lookup-past x (drop (i + 1) xs) k n) ∙ ap (λ ys. lookup carried ys k) (sym (drop_item xs i x l e)) ∙ h
+  find_more xs i x k l e n h = sym (lookup_past x (drop (i + 1) xs) k n) ∙ ap (λ ys. lookup carried ys k) (sym (drop_item xs i x l e)) ∙ h
 
   -- and at the key's row
-  pub find-here : (xs : List (Option R)) (i : ℕ) (r : R) (k : Numbers) → i < length xs → Some r ≡ get_or xs i (Some r) → same_key (carried r) k ≡ true
+  pub find_here : (xs : List (Option R)) (i : ℕ) (r : R) (k : Numbers) → i < length xs → Some r ≡ get_or xs i (Some r) → same_key (carried r) k ≡ true
       → lookup carried (drop i xs) k ≡ lookup carried xs k → Some r ≡ lookup carried xs k
-  find-here xs i r k l e s h = sym (lookup-here r (drop (i + 1) xs) k s) ∙ ap (λ ys. lookup carried ys k) (sym (drop_item xs i (Some r) l e)) ∙ h
+  find_here xs i r k l e s h = sym (lookup_here r (drop (i + 1) xs) k s) ∙ ap (λ ys. lookup carried ys k) (sym (drop_item xs i (Some r) l e)) ∙ h
 
   -- where a row is put, as the rows from index i on and the first vacant row before them tell
-  pub place-from : ℕ → Option ℕ → List (Option R) → Numbers → Option ℕ
-  place-from i free xs k = option_or (option_map (λ n. n + i) (first (is_at carried k) xs)) (option_or free (option_map (λ n. n + i) (first is_vacant xs)))
+  pub place_from : ℕ → Option ℕ → List (Option R) → Numbers → Option ℕ
+  place_from i free xs k = option_or (option_map (λ n. n + i) (first (is_at carried k) xs)) (option_or free (option_map (λ n. n + i) (first is_vacant xs)))
 
-  pub place_none : (xs : List (Option R)) (k : Numbers) → place-from 0 None xs k ≡ place carried xs k
-  unfolding place-from
+  pub place_none : (xs : List (Option R)) (k : Numbers) → place_from 0 None xs k ≡ place carried xs k
+  unfolding place_from
   place_none xs k = simp (add-zero, mapped_id)
 
-  pub place-all : (i : ℕ) (free : Option ℕ) (k : Numbers) → place-from i free [] k ≡ free
-  unfolding place-from first
-  place-all i None k = refl
-  place-all i (Some j) k = refl
+  pub place_all : (i : ℕ) (free : Option ℕ) (k : Numbers) → place_from i free [] k ≡ free
+  unfolding place_from first
+  place_all i None k = refl
+  place_all i (Some j) k = refl
 
   -- at the key's row
-  pub place_here : (i : ℕ) (free : Option ℕ) (r : R) (xs : List (Option R)) (k : Numbers) → same_key (carried r) k ≡ true → place-from i free (Some r ∷ xs) k ≡ Some i
-  unfolding place-from first
+  pub place_here : (i : ℕ) (free : Option ℕ) (r : R) (xs : List (Option R)) (k : Numbers) → same_key (carried r) k ≡ true → place_from i free (Some r ∷ xs) k ≡ Some i
+  unfolding place_from first
   place_here i free r xs k e = rw e (rw zero-add)
 
   -- past a row that carries another key
-  pub place-past : (i : ℕ) (free : Option ℕ) (r : R) (xs : List (Option R)) (k : Numbers) → same_key (carried r) k ≡ false → place-from i free (Some r ∷ xs) k ≡ place-from (i + 1) free xs k
-  unfolding place-from first
-  place-past i free r xs k e = rw (e, mapped_past i (first (is_at carried k) xs), mapped_past i (first is_vacant xs))
+  pub place_past : (i : ℕ) (free : Option ℕ) (r : R) (xs : List (Option R)) (k : Numbers) → same_key (carried r) k ≡ false → place_from i free (Some r ∷ xs) k ≡ place_from (i + 1) free xs k
+  unfolding place_from first
+  place_past i free r xs k e = rw (e, mapped_past i (first (is_at carried k) xs), mapped_past i (first is_vacant xs))
 
   -- past a vacant row
-  pub place-vacant : (i : ℕ) (free : Option ℕ) (xs : List (Option R)) (k : Numbers) → place-from i free (None ∷ xs) k ≡ place-from (i + 1) (option_or free (Some i)) xs k
-  unfolding place-from first
-  place-vacant i None xs k = rw (mapped_past i (first (is_at carried k) xs), zero-add)
-  place-vacant i (Some j) xs k = rw (mapped_past i (first (is_at carried k) xs))
+  pub place_vacant : (i : ℕ) (free : Option ℕ) (xs : List (Option R)) (k : Numbers) → place_from i free (None ∷ xs) k ≡ place_from (i + 1) (option_or free (Some i)) xs k
+  unfolding place_from first
+  place_vacant i None xs k = rw (mapped_past i (first (is_at carried k) xs), zero-add)
+  place_vacant i (Some j) xs k = rw (mapped_past i (first (is_at carried k) xs))
 
   -- the first row that carries the key is the key's row
-  lookup-at-first : (xs : List (Option R)) (k : Numbers) (i : ℕ) → first (is_at carried k) xs ≡ Some i → lookup carried xs k ≡ get_or xs i None
+  lookup_at_first : (xs : List (Option R)) (k : Numbers) (i : ℕ) → first (is_at carried k) xs ≡ Some i → lookup carried xs k ≡ get_or xs i None
   unfolding first lookup
-  lookup-at-first [] k i e = cc
-  lookup-at-first (x ∷ xs) k i e = go (lookup-at-first xs k) (is_at carried k x) (first (is_at carried k) xs) refl e
+  lookup_at_first [] k i e = cc
+  lookup_at_first (x ∷ xs) k i e = go (lookup_at_first xs k) (is_at carried k x) (first (is_at carried k) xs) refl e
     where
       go : ((j : ℕ) → first (is_at carried k) xs ≡ Some j → lookup carried xs k ≡ get_or xs j None)
           → (b : Bool) (o : Option ℕ) → first (is_at carried k) xs ≡ o → cond b (Some 0) (option_map suc o) ≡ Some i → cond b x (lookup carried xs k) ≡ get_or (x ∷ xs) i None
@@ -226,48 +226,48 @@ module _ {R : Type 0} (carried : R → Numbers) where
       go less false (Some j) f t = let z : suc j ≡ i = cc in less j f ∙ ap (λ n. get_or (x ∷ xs) n None) z
 
   -- where no row carries the key it has none
-  lookup-no-first : (xs : List (Option R)) (k : Numbers) → first (is_at carried k) xs ≡ None → lookup carried xs k ≡ None
+  lookup_no_first : (xs : List (Option R)) (k : Numbers) → first (is_at carried k) xs ≡ None → lookup carried xs k ≡ None
   unfolding first lookup
-  lookup-no-first [] k e = refl
-  lookup-no-first (x ∷ xs) k e = go (lookup-no-first xs k) (is_at carried k x) e
+  lookup_no_first [] k e = refl
+  lookup_no_first (x ∷ xs) k e = go (lookup_no_first xs k) (is_at carried k x) e
     where
       go : (first (is_at carried k) xs ≡ None → lookup carried xs k ≡ None) → (b : Bool) → cond b (Some 0) (option_map suc (first (is_at carried k) xs)) ≡ None → cond b x (lookup carried xs k) ≡ None
       go less true t = cc
       go less false t = less (mapped_none (first (is_at carried k) xs) t)
 
   -- the first vacant row is vacant
-  vacant-at : (xs : List (Option R)) (i : ℕ) → first is_vacant xs ≡ Some i → get_or xs i None ≡ None
+  vacant_at : (xs : List (Option R)) (i : ℕ) → first is_vacant xs ≡ Some i → get_or xs i None ≡ None
   unfolding first
-  vacant-at [] i e = cc
-  vacant-at (None ∷ xs) i e = let z : 0 ≡ i = cc in ap (λ j. get_or (None ∷ xs) j None) (sym z)
-  vacant-at (Some y ∷ xs) i e = go (vacant-at xs) (first is_vacant xs) refl e
+  vacant_at [] i e = cc
+  vacant_at (None ∷ xs) i e = let z : 0 ≡ i = cc in ap (λ j. get_or (None ∷ xs) j None) (sym z)
+  vacant_at (Some y ∷ xs) i e = go (vacant_at xs) (first is_vacant xs) refl e
     where
       go : ((j : ℕ) → first is_vacant xs ≡ Some j → get_or xs j None ≡ None) → (o : Option ℕ) → first is_vacant xs ≡ o → option_map suc o ≡ Some i → get_or (Some y ∷ xs) i None ≡ None
       go less None f t = cc
       go less (Some j) f t = let z : suc j ≡ i = cc in ap (λ n. get_or (Some y ∷ xs) n None) (sym z) ∙ less j f
 
   -- where the key's row is or would be put, the key's row is what is there
-  pub lookup-at-place : (xs : List (Option R)) (k : Numbers) (i : ℕ) → place carried xs k ≡ Some i → lookup carried xs k ≡ get_or xs i None
-  lookup-at-place xs k i e = go (first (is_at carried k) xs) refl e
+  pub lookup_at_place : (xs : List (Option R)) (k : Numbers) (i : ℕ) → place carried xs k ≡ Some i → lookup carried xs k ≡ get_or xs i None
+  lookup_at_place xs k i e = go (first (is_at carried k) xs) refl e
     where
       go : (o : Option ℕ) → first (is_at carried k) xs ≡ o → option_or o (first is_vacant xs) ≡ Some i → lookup carried xs k ≡ get_or xs i None
-      go None f t = lookup-no-first xs k f ∙ sym (vacant-at xs i t)
-      go (Some j) f t = lookup-at-first xs k i (f ∙ t)
+      go None f t = lookup_no_first xs k f ∙ sym (vacant_at xs i t)
+      go (Some j) f t = lookup_at_first xs k i (f ∙ t)
 
   -- where there is no place, no row carries the key
-  pub lookup-no-place : (xs : List (Option R)) (k : Numbers) → place carried xs k ≡ None → lookup carried xs k ≡ None
-  lookup-no-place xs k e = go (first (is_at carried k) xs) refl e
+  pub lookup_no_place : (xs : List (Option R)) (k : Numbers) → place carried xs k ≡ None → lookup carried xs k ≡ None
+  lookup_no_place xs k e = go (first (is_at carried k) xs) refl e
     where
       go : (o : Option ℕ) → first (is_at carried k) xs ≡ o → option_or o (first is_vacant xs) ≡ None → lookup carried xs k ≡ None
-      go None f t = lookup-no-first xs k f
+      go None f t = lookup_no_first xs k f
       go (Some j) f t = cc
 
   -- the key's row carries the key
-  pub lookup-carries : (xs : List (Option R)) (k : Numbers) (r : R) → lookup carried xs k ≡ Some r → carried r ≡ k
+  pub lookup_carries : (xs : List (Option R)) (k : Numbers) (r : R) → lookup carried xs k ≡ Some r → carried r ≡ k
   unfolding lookup
-  lookup-carries [] k r e = cc
-  lookup-carries (None ∷ xs) k r e = lookup-carries xs k r e
-  lookup-carries (Some y ∷ xs) k r e = go (lookup-carries xs k r) (same_key (carried y) k) refl e
+  lookup_carries [] k r e = cc
+  lookup_carries (None ∷ xs) k r e = lookup_carries xs k r e
+  lookup_carries (Some y ∷ xs) k r e = go (lookup_carries xs k r) (same_key (carried y) k) refl e
     where
       go : (lookup carried xs k ≡ Some r → carried r ≡ k) → (b : Bool) → same_key (carried y) k ≡ b → cond b (Some y) (lookup carried xs k) ≡ Some r → carried r ≡ k
       go less true s t = let z : y ≡ r = cc in ap carried (sym z) ∙ same_key_is (carried y) k s

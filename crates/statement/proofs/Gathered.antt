@@ -6,7 +6,7 @@ use Rattle.formulas.specs.Basis.{Basis, Injection, Withdrawal, Bilateral, Vested
 use Rattle.records.specs.declared.inputs.Terms.{Terms}
 use Rattle.register.specs.Keys.{Numbers, numbered_key, tranche_key}
 use Rattle.register.specs.Rows.{lookup}
-use Rattle.register.proofs.Mapped.{lookup-mapped}
+use Rattle.register.proofs.Mapped.{lookup_mapped}
 use Rattle.gather.specs.Gathered.{basis_at, contract_key, facility_key, load_key, vesting_key}
 use Rattle.rows.specs.Meaning.{contract_named, contract_rows, contract_says, facility_named, facility_rows, facility_says, interval_says, load_named, load_rows, load_says, vesting_named, vesting_rows, vesting_says}
 use Rattle.rows.specs.declared.contract.ContractRow.{ContractRow}
@@ -24,7 +24,7 @@ mapped_twice f g (Some r) = refl
 
 pub read_as : {R S T : Type 0} (carried : R → Numbers) (named : S → Numbers) (says : R → S) (same : (r : R) → named (says r) ≡ carried r) (f : S → T) (rows : List (Option R)) (k : Numbers)
     → option_map (λ r. f (says r)) (lookup carried rows k) ≡ option_map f (lookup named (map (option_map says) rows) k)
-read_as carried named says same f rows k = sym (mapped_twice f says (lookup carried rows k)) ∙ ap (option_map f) (sym (lookup-mapped carried named says same rows k))
+read_as carried named says same f rows k = sym (mapped_twice f says (lookup carried rows k)) ∙ ap (option_map f) (sym (lookup_mapped carried named says same rows k))
 
 same_basis : (u u' r r' p p' : ℤ) (k k' o o' : ℕ) (f g : ℕ → Option Injection) (l m : ℕ → Option Withdrawal) (b c : ℕ → Option Bilateral) (v w : ℕ → ℕ → Option Vested)
     → u ≡ u' → r ≡ r' → p ≡ p' → k ≡ k' → o ≡ o' → f ≡ g → l ≡ m → b ≡ c → v ≡ w

@@ -8,7 +8,7 @@ use Rattle.book.specs.Meaning.{balance_limit}
 use Rattle.book.specs.Statement.{amount_of, is_posted}
 use Rattle.book.proofs.Counts.{count_none, count_at_most}
 use Rattle.book.proofs.Posting.{shown_refused}
-use Rattle.book.proofs.Statements.{amount_at, none_beyond, one_beyond, counted, passed_over, refuses-beyond, refuses-places, settles}
+use Rattle.book.proofs.Statements.{amount_at, none_beyond, one_beyond, counted, passed_over, refuses_beyond, refuses_places, settles}
 use Rattle.book.proofs.statement.check_statement.Goals as goal
 use Rattle.book.proofs.statement.check_statement.Goals.{then-amount-ne0, else-amount-ne0}
 
@@ -27,7 +27,7 @@ returns-in_err-raised g c =
     let shown : c.in_ok-balance.balance.0 ≡ held (i + 1) = c.in_ok-balance.ensures.value in
     let over : Around balance_limit (held (i + 1) +ℤ amount (i + 1)) → ⊥ = λ w. c.in_err-raised.ensures.1 (omega (arith, ints, shown, amount_at c.args.amounts.now i)) in
     let p = err_from_is_err_and c.from_residual-in_err-raised.result c.from_residual-in_err-raised.ensures.1 in
-    rw (p.1, p.2) (ap refusal_number c.in_err-raised.ensures.0 ∙ sym (refuses-beyond held (g.B.Book.room c.args.book.now) amount (one_beyond held amount i (omega arith) over)))
+    rw (p.1, p.2) (ap refusal_number c.in_err-raised.ensures.0 ∙ sym (refuses_beyond held (g.B.Book.room c.args.book.now) amount (one_beyond held amount i (omega arith) over)))
 
 pub overflow_add-needed : goal.overflow_add-needed
 overflow_add-needed g c = omega (arith, c.loop-index.invariant.1, count_at_most c.loop-index.index (is_posted (amount_of c.args.amounts.now)))
@@ -49,7 +49,7 @@ loop-index-preserved g c =
 pub returns-then-places-needed : goal.returns-then-places-needed
 returns-then-places-needed g c =
     let end : c.loop-index.index ≡ accounts = omega arith in
-    sym (refuses-places (g.B.Book.held c.args.book.now) (g.B.Book.room c.args.book.now) (amount_of c.args.amounts.now) (rw end at c.loop-index.invariant.0) (omega (arith, rw end at c.loop-index.invariant.1)))
+    sym (refuses_places (g.B.Book.held c.args.book.now) (g.B.Book.room c.args.book.now) (amount_of c.args.amounts.now) (rw end at c.loop-index.invariant.0) (omega (arith, rw end at c.loop-index.invariant.1)))
 
 pub returns : goal.returns
 returns g c =

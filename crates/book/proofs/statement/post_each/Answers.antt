@@ -2,11 +2,11 @@ use Rattle.std.proofs.Common.{◌+◌, sym, ◌∙◌, subst, arith}
 use Rattle.std.proofs.lemmas.Int.{ints}
 use Rattle.units.specs.Ranges.{Account}
 use Rattle.book.specs.Statement.{amount_of, Turn}
-use Rattle.book.proofs.Statements.{amount_at, part_room, part_of, no-turn, next-turn}
+use Rattle.book.proofs.Statements.{amount_at, part_room, part_of, no_turn, next_turn}
 use Rattle.book.proofs.statement.post_each.Goals as goal
 
 pub loop-index-init : goal.loop-index-init
-loop-index-init g c = (no-turn g.B.Book.held g.B.Book.room g.B.Book.takes (amount_of c.args.amounts.now) c.args.book.now, λ i h. h)
+loop-index-init g c = (no_turn g.B.Book.held g.B.Book.room g.B.Book.takes (amount_of c.args.amounts.now) c.args.book.now, λ i h. h)
 
 pub post_turn-requires : goal.post_turn-requires
 post_turn-requires g c =
@@ -29,6 +29,6 @@ loop-index-preserved g c =
     let mid = c.loop-index.book in
     let new = c.post_turn.new.book in
     let turn = subst (λ z. Turn b.held b.room b.takes (i + 1) z mid new) (sym (amount_at c.args.amounts.now i)) c.post_turn.ensures.turn in (
-      next-turn b.held b.room b.takes (amount_of c.args.amounts.now) c.args.book.now i mid new c.loop-index.invariant.0 turn,
+      next_turn b.held b.room b.takes (amount_of c.args.amounts.now) c.args.book.now i mid new c.loop-index.invariant.0 turn,
       λ k h. c.post_turn.ensures.conditions k (c.loop-index.invariant.1 k h),
     )

@@ -1,5 +1,5 @@
 use Rattle.book.specs.Statement.{amount_of}
-use Rattle.book.proofs.Statements.{none-met, all_fine, settled}
+use Rattle.book.proofs.Statements.{none_met, all_fine, settled}
 use Rattle.book.proofs.statement.post_statement.Goals as goal
 
 pub post_each-requires : goal.post_each-requires
@@ -7,7 +7,7 @@ post_each-requires g c =
     let held = g.B.Book.held c.args.book.now in
     let room = g.B.Book.room c.args.book.now in
     let amount = amount_of c.args.amounts.now in
-    let clear = none-met held room amount c.in_ok-check_statement.ensures in
+    let clear = none_met held room amount c.in_ok-check_statement.ensures in
     (record { by_index = all_fine held amount clear.0; amounts_bound = clear.1 })
 
 pub returns : goal.returns

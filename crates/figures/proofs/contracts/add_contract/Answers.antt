@@ -5,7 +5,7 @@ use Rattle.formulas.specs.Figures.{beq_of}
 use Rattle.figures.specs.Meaning.{basis_of, bilateral_of}
 use Rattle.records.specs.declared.inputs.Inputs.{Inputs}
 use Rattle.records.specs.declared.entries.Contract.{Contract}
-use Rattle.formulas.proofs.Bounds.{BEQ-up-to, product_around}
+use Rattle.formulas.proofs.Bounds.{beq_up_to, product_around}
 use Rattle.figures.proofs.Gathered.{inputs_in_ranges}
 use Rattle.figures.proofs.contracts.add_contract.Goals as goal
 
@@ -13,7 +13,7 @@ use Rattle.figures.proofs.contracts.add_contract.Goals as goal
 moved : (i : Inputs) (k : Contract) (q x : ℤ) → q ≡ beq_of (basis_of i) (bilateral_of k) → x ≡ i.usep.0 *ℤ q → Around 1300000000000000 x
 moved i k q x is e =
     let ok = inputs_in_ranges i in
-    let some = BEQ-up-to (basis_of i) ok (bilateral_of k) (k.baq_ok, k.bwf_ok, k.bif_ok) in
+    let some = beq_up_to (basis_of i) ok (bilateral_of k) (k.baq_ok, k.bwf_ok, k.bif_ok) in
     rw e (rw is (product_around 1000000 1300000000 i.usep.0 (beq_of (basis_of i) (bilateral_of k)) i.usep_ok (omega (arith, ints))))
 
 -- an amount that rose by nothing or by x

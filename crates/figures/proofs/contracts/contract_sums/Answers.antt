@@ -8,7 +8,7 @@ use Rattle.formulas.specs.Figures.{bsc_of, from_contract}
 use Rattle.figures.specs.Meaning.{amount_at, basis_of, bilateral_of}
 use Rattle.formulas.specs.Sums.{sum}
 use Rattle.figures.proofs.Balanced.{amount_none}
-use Rattle.formulas.proofs.Bounds.{contract-around}
+use Rattle.formulas.proofs.Bounds.{contract_around}
 use Rattle.figures.proofs.Gathered.{inputs_in_ranges}
 use Rattle.formulas.proofs.Steps.{sum_step}
 use Rattle.formulas.proofs.Sums.{sum_none, sum_within}
@@ -24,7 +24,7 @@ add_contract-requires c =
     record {
       totalled = c.requires;
       before = λ a k.
-          let bound = sum_within c.loop-n.n 1300000000000000 _ (λ m _ _. contract-around (basis_of i) ok a ((basis_of i).contract m) (ok.contract m)) in
+          let bound = sum_within c.loop-n.n 1300000000000000 _ (λ m _ _. contract_around (basis_of i) ok a ((basis_of i).contract m) (ok.contract m)) in
           omega (arith, ints, c.loop-n.invariant a k);
     }
 

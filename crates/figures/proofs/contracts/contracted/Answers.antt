@@ -11,17 +11,17 @@ use Rattle.figures.specs.declared.injected.Injected.{Injected}
 use Rattle.records.specs.declared.inputs.Inputs.{Inputs}
 use Rattle.records.specs.declared.entries.Contract.{Contract}
 use Rattle.records.specs.declared.entries.Load.{Load}
-use Rattle.formulas.proofs.Bounds.{IEQ-around, WEQ-up-to, at_least_0_up_to, part_up_to}
-use Rattle.figures.proofs.Gathered.{weq_at, inputs_in_ranges, total-IEQ, totalled_at}
+use Rattle.formulas.proofs.Bounds.{summed_ieq_around, weq_up_to, at_least_0_up_to, part_up_to}
+use Rattle.figures.proofs.Gathered.{weq_at, inputs_in_ranges, total_ieq, totalled_at}
 use Rattle.figures.proofs.contracts.contracted.Goals as goal
 
 -- what the seller injected, as the totals have it
 sold_of : (c : goal.After-positive) → c.positive.result.0 ≡ at_least_0 (ieq_of (basis_of c.args.inputs.now) c.args.contract.now.seller)
-sold_of c = c.positive.ensures ∙ ap at_least_0 (total-IEQ _ _ _ (totalled_at _ _ _ c.requires c.args.contract.now.seller_ok))
+sold_of c = c.positive.ensures ∙ ap at_least_0 (total_ieq _ _ _ (totalled_at _ _ _ c.requires c.args.contract.now.seller_ok))
 
 pub hundredths_of-sold-requires : goal.hundredths_of-sold-requires
 hundredths_of-sold-requires c =
-    let within : Within (pos 0) (pos 1280000000) c.positive.result.0 = rw (sold_of c) (at_least_0_up_to _ _ (IEQ-around _ (inputs_in_ranges c.args.inputs.now) c.args.contract.now.seller)) in
+    let within : Within (pos 0) (pos 1280000000) c.positive.result.0 = rw (sold_of c) (at_least_0_up_to _ _ (summed_ieq_around _ (inputs_in_ranges c.args.inputs.now) c.args.contract.now.seller)) in
     record { fraction = c.args.contract.now.bif_ok; quantity = omega (arith, ints) }
 
 -- the parts of a contract's energy, and their sum
@@ -34,12 +34,12 @@ parts i xs k o drawn bought made sold t lt d b m s =
     let at : get_or i.loads (k.buyer - 1) o ≡ get_or i.loads (k.buyer - 1) None = get_or_default i.loads (k.buyer - 1) o None lt in
     let next : suc (k.buyer - 1) ≡ k.buyer = omega (arith, k.buyer_ok.0) in
     let drawn-is : drawn ≡ weq_of (basis_of i) k.buyer = d ∙ ap (λ l. of_load (λ l. l.weq) (option_map withdrawal_of l)) at ∙ weq_at i (k.buyer - 1) ∙ ap (weq_of (basis_of i)) next in
-    let made-is : made ≡ at_least_0 (ieq_of (basis_of i) k.seller) = m ∙ ap at_least_0 (total-IEQ _ _ _ (totalled_at _ _ _ t k.seller_ok)) in
+    let made-is : made ≡ at_least_0 (ieq_of (basis_of i) k.seller) = m ∙ ap at_least_0 (total_ieq _ _ _ (totalled_at _ _ _ t k.seller_ok)) in
     let bought-is : bought ≡ part k.bwf (weq_of (basis_of i) k.buyer) = b ∙ ap (part k.bwf) drawn-is in
     let sold-is : sold ≡ part k.bif (at_least_0 (ieq_of (basis_of i) k.seller)) = s ∙ ap (part k.bif) made-is in
     let ok = inputs_in_ranges i in (
-      rw bought-is (part_up_to _ k.bwf _ k.bwf_ok (WEQ-up-to _ ok k.buyer)),
-      rw sold-is (part_up_to _ k.bif _ k.bif_ok (at_least_0_up_to _ _ (IEQ-around _ ok k.seller))),
+      rw bought-is (part_up_to _ k.bwf _ k.bwf_ok (weq_up_to _ ok k.buyer)),
+      rw sold-is (part_up_to _ k.bif _ k.bif_ok (at_least_0_up_to _ _ (summed_ieq_around _ ok k.seller))),
       ap (λ z. k.baq.0 +ℤ z +ℤ sold) bought-is ∙ ap (λ z. k.baq.0 +ℤ part k.bwf (weq_of (basis_of i) k.buyer) +ℤ z) sold-is,
     )
 

@@ -3,13 +3,13 @@ use Rattle.std.proofs.lemmas.Int.{ints}
 use Rattle.formulas.specs.Figures.{fee_of, own_fee_of}
 use Rattle.figures.specs.Meaning.{basis_of}
 use Rattle.figures.proofs.Balanced.{balanced_same}
-use Rattle.formulas.proofs.Bounds.{own-FEE-around}
+use Rattle.formulas.proofs.Bounds.{own_fee_around}
 use Rattle.figures.proofs.Gathered.{inputs_in_ranges}
 use Rattle.figures.proofs.fees.fee_sums.Goals as goal
 
 pub balance_out-requires : goal.balance_out-requires
 balance_out-requires c =
-    record { account = c.args.inputs.now.operator_ok; modest = λ a ok. omega (arith, ints, c.own_fees-amounts.ensures a ok, own-FEE-around (basis_of c.args.inputs.now) (inputs_in_ranges c.args.inputs.now) a) }
+    record { account = c.args.inputs.now.operator_ok; modest = λ a ok. omega (arith, ints, c.own_fees-amounts.ensures a ok, own_fee_around (basis_of c.args.inputs.now) (inputs_in_ranges c.args.inputs.now) a) }
 
 pub returns : goal.returns
 unfolding fee_of

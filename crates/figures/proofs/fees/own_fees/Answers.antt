@@ -11,8 +11,8 @@ use Rattle.figures.specs.declared.injected.Injected.{Injected}
 use Rattle.records.specs.declared.inputs.Inputs.{Inputs}
 use Rattle.records.specs.declared.entries.Load.{Load}
 use Rattle.figures.proofs.Balanced.{filled_more}
-use Rattle.formulas.proofs.Bounds.{IEQ-around, WFQ-up-to}
-use Rattle.figures.proofs.Gathered.{wfq_at, inputs_in_ranges, total-IEQ}
+use Rattle.formulas.proofs.Bounds.{summed_ieq_around, wfq_up_to}
+use Rattle.figures.proofs.Gathered.{wfq_at, inputs_in_ranges, total_ieq}
 use Rattle.figures.proofs.fees.own_fees.Goals as goal
 
 -- the energy on which an account pays fees, as the code holds it
@@ -23,10 +23,10 @@ energy : (i : Inputs) (xs : List Injected) (k : ℕ) (o : Option Load) (drawn : 
 unfolding own_fee_of
 energy i xs k o drawn t lt within e =
     let drawn-is : drawn ≡ wfq_of (basis_of i) (suc k) = e ∙ ap (λ l. of_load (λ l. l.wfq) (option_map withdrawal_of l)) (get_or_default i.loads k o None within) ∙ wfq_at i k in
-    let made-is : (get_or xs k nothing_injected).ieq.0 ≡ ieq_of (basis_of i) (suc k) = total-IEQ _ _ _ (t k lt) in
+    let made-is : (get_or xs k nothing_injected).ieq.0 ≡ ieq_of (basis_of i) (suc k) = total_ieq _ _ _ (t k lt) in
     let ok = inputs_in_ranges i in
-    let made = IEQ-around (basis_of i) ok (suc k) in
-    let charged = WFQ-up-to (basis_of i) ok (suc k) in
+    let made = summed_ieq_around (basis_of i) ok (suc k) in
+    let charged = wfq_up_to (basis_of i) ok (suc k) in
     (omega (arith, ints), ap (λ z. i.rate.0 *ℤ z) (omega (arith, ints)))
 
 pub loop-k-init : goal.loop-k-init

@@ -6,7 +6,7 @@ use Rattle.units.specs.Ranges.{Around, Within}
 use Rattle.formulas.specs.Figures.{heua_of, borne, total_load}
 use Rattle.figures.specs.Meaning.{basis_of}
 use Rattle.records.specs.declared.inputs.Inputs.{Inputs}
-use Rattle.formulas.proofs.Bounds.{HEUA-around, product_around, total_load-up-to}
+use Rattle.formulas.proofs.Bounds.{heua_around, product_around, total_load_up_to}
 use Rattle.figures.proofs.Gathered.{inputs_in_ranges}
 use Rattle.formulas.proofs.Shares.{borne_some}
 use Rattle.figures.proofs.uplift.borne_upto.Goals as goal
@@ -21,7 +21,7 @@ product h c amount load =
 
 -- the amount and the load of the uplift are within their bounds
 bounds : (i : Inputs) (h c : ℤ) → h ≡ heua_of (basis_of i) → Within (pos 0) (pos (total_load (basis_of i))) c → Around 223840000000000000 h × Within (pos 0) (pos 960000000) c
-bounds i h c e within = (rw e (HEUA-around (basis_of i) (inputs_in_ranges i)), omega (arith, ints, total_load-up-to (basis_of i) (inputs_in_ranges i)))
+bounds i h c e within = (rw e (heua_around (basis_of i) (inputs_in_ranges i)), omega (arith, ints, total_load_up_to (basis_of i) (inputs_in_ranges i)))
 
 pub overflow_mul-uplift : goal.overflow_mul-uplift
 overflow_mul-uplift c =
@@ -36,7 +36,7 @@ quotient : (i : Inputs) (h c load found : ℤ) → h ≡ heua_of (basis_of i) �
 quotient i h c load found e l within some f =
     let b = bounds i h c e within in
     let p = product h c b.0 b.1 in
-    let fits : SFits w64 load = omega (arith, ints, total_load-up-to (basis_of i) (inputs_in_ranges i)) in
+    let fits : SFits w64 load = omega (arith, ints, total_load_up_to (basis_of i) (inputs_in_ranges i)) in
     let whole : nat_abs (to_z w64 (of_z w64 load)) ≡ total_load (basis_of i) = ap nat_abs (to_z-of_z w64 load fits ∙ l) in
     let positive : 0 < total_load (basis_of i) = omega arith in
     f ∙ ap (λ n. floor (to_z w128 (of_z w128 (to_z w128 (of_z w128 h) *ℤ to_z w128 (of_z w128 (to_z w64 (of_z w64 c)))))) n) whole

@@ -4,8 +4,8 @@ use Rattle.units.specs.Ranges.{accounts}
 use Rattle.formulas.specs.Figures.{gesc_of}
 use Rattle.figures.specs.Meaning.{basis_of}
 use Rattle.formulas.specs.Sums.{sum}
-use Rattle.formulas.proofs.Bounds.{GESC-around}
-use Rattle.figures.proofs.Gathered.{inputs_in_ranges, total-GESC}
+use Rattle.formulas.proofs.Bounds.{gesc_around}
+use Rattle.figures.proofs.Gathered.{inputs_in_ranges, total_gesc}
 use Rattle.formulas.proofs.Steps.{sum_next}
 use Rattle.formulas.proofs.Sums.{sum_none, sum_within}
 use Rattle.figures.proofs.uplift.total_earned.Goals as goal
@@ -17,13 +17,13 @@ pub overflow_add-all : goal.overflow_add-all
 overflow_add-all c =
     let i = basis_of c.args.inputs.now in
     let ok = inputs_in_ranges c.args.inputs.now in
-    omega (arith, ints, total-GESC i (suc c.loop-k.k) _ (c.requires c.loop-k.k c.loop-k-test.true), GESC-around i ok (suc c.loop-k.k), sum_within c.loop-k.k 1280000000000000 (gesc_of i) (λ a _ _. GESC-around i ok a))
+    omega (arith, ints, total_gesc i (suc c.loop-k.k) _ (c.requires c.loop-k.k c.loop-k-test.true), gesc_around i ok (suc c.loop-k.k), sum_within c.loop-k.k 1280000000000000 (gesc_of i) (λ a _ _. gesc_around i ok a))
 
 pub loop-k-preserved : goal.loop-k-preserved
 loop-k-preserved c =
     let i = basis_of c.args.inputs.now in
     let ok = inputs_in_ranges c.args.inputs.now in
-    omega (arith, ints, total-GESC i (suc c.loop-k.k) _ (c.requires c.loop-k.k c.loop-k-test.true), GESC-around i ok (suc c.loop-k.k), sum_within c.loop-k.k 1280000000000000 (gesc_of i) (λ a _ _. GESC-around i ok a), sum_next c.loop-k.k (gesc_of i))
+    omega (arith, ints, total_gesc i (suc c.loop-k.k) _ (c.requires c.loop-k.k c.loop-k-test.true), gesc_around i ok (suc c.loop-k.k), sum_within c.loop-k.k 1280000000000000 (gesc_of i) (λ a _ _. gesc_around i ok a), sum_next c.loop-k.k (gesc_of i))
 
 pub returns : goal.returns
 returns c = let end : c.loop-k.k ≡ accounts = omega arith in c.loop-k.invariant ∙ ap (λ n. sum n (gesc_of (basis_of c.args.inputs.now))) end

@@ -4,7 +4,7 @@ use Rattle.units.specs.Ranges.{accounts}
 use Rattle.formulas.specs.Figures.{weq_of}
 use Rattle.figures.specs.Meaning.{basis_of}
 use Rattle.formulas.specs.Sums.{sum}
-use Rattle.formulas.proofs.Bounds.{WEQ-up-to, loads-up-to}
+use Rattle.formulas.proofs.Bounds.{weq_up_to, loads_up_to}
 use Rattle.figures.proofs.Gathered.{inputs_in_ranges}
 use Rattle.formulas.proofs.Steps.{sum_next}
 use Rattle.formulas.proofs.Sums.{sum_none}
@@ -19,14 +19,14 @@ overflow_add-all c =
     let i = c.args.inputs.now in
     let w = drawn_at i c.loop-k.k _ _ (search rules) c.withdrawn-all.ensures in
     let ok = inputs_in_ranges i in
-    omega (arith, ints, loads-up-to (basis_of i) ok c.loop-k.k, WEQ-up-to (basis_of i) ok (suc c.loop-k.k))
+    omega (arith, ints, loads_up_to (basis_of i) ok c.loop-k.k, weq_up_to (basis_of i) ok (suc c.loop-k.k))
 
 pub loop-k-preserved : goal.loop-k-preserved
 loop-k-preserved c =
     let i = c.args.inputs.now in
     let w = drawn_at i c.loop-k.k _ _ (search rules) c.withdrawn-all.ensures in
     let ok = inputs_in_ranges i in
-    omega (arith, ints, loads-up-to (basis_of i) ok c.loop-k.k, WEQ-up-to (basis_of i) ok (suc c.loop-k.k), sum_next c.loop-k.k (weq_of (basis_of i)))
+    omega (arith, ints, loads_up_to (basis_of i) ok c.loop-k.k, weq_up_to (basis_of i) ok (suc c.loop-k.k), sum_next c.loop-k.k (weq_of (basis_of i)))
 
 pub returns : goal.returns
 returns c = let end : c.loop-k.k ≡ accounts = omega arith in c.loop-k.invariant ∙ ap (λ n. sum n (weq_of (basis_of c.args.inputs.now))) end

@@ -7,7 +7,7 @@ use Rattle.formulas.specs.Figures.{gesc_of, heua_of, heur_of, lesd_of, weq_of, t
 use Rattle.figures.specs.Meaning.{basis_of}
 use Rattle.formulas.specs.Sums.{sum}
 use Rattle.records.specs.declared.inputs.Inputs.{Inputs}
-use Rattle.formulas.proofs.Bounds.{GESC-around, HEUA-around, product_around, total_load-is, total_load-up-to}
+use Rattle.formulas.proofs.Bounds.{gesc_around, heua_around, product_around, total_load_is, total_load_up_to}
 use Rattle.figures.proofs.Gathered.{inputs_in_ranges}
 use Rattle.formulas.proofs.Sums.{sum_scale, sum_within}
 use Rattle.figures.proofs.uplift.uplift_of.Goals as goal
@@ -18,10 +18,10 @@ parts : (i : Inputs) (load earned paid : ℤ) → load ≡ sum accounts (weq_of 
 unfolding heua_of lesd_of
 parts i load earned paid l e p =
     let ok = inputs_in_ranges i in
-    let load_is : load ≡ pos (total_load (basis_of i)) = l ∙ sym (total_load-is (basis_of i) ok) in
-    let few = total_load-up-to (basis_of i) ok in
+    let load_is : load ≡ pos (total_load (basis_of i)) = l ∙ sym (total_load_is (basis_of i) ok) in
+    let few = total_load_up_to (basis_of i) ok in
     let all : paid ≡ sum accounts (lesd_of (basis_of i)) = p ∙ ap (λ z. i.usep.0 *ℤ z) l ∙ sym (sum_scale accounts i.usep.0 (weq_of (basis_of i))) in (
-      rw e (sum_within accounts 1280000000000000 (gesc_of (basis_of i)) (λ a _ _. GESC-around (basis_of i) ok a)),
+      rw e (sum_within accounts 1280000000000000 (gesc_of (basis_of i)) (λ a _ _. gesc_around (basis_of i) ok a)),
       rw p (product_around 1000000 960000000 i.usep.0 load i.usep_ok (omega (arith, ints))),
       ap (λ z. z -ℤ paid +ℤ i.pending.0) e ∙ ap (λ z. sum accounts (gesc_of (basis_of i)) -ℤ z +ℤ i.pending.0) all,
       load_is,
@@ -48,7 +48,7 @@ overflow_add-amount c =
 pub rate_of-rate-requires : goal.rate_of-rate-requires
 rate_of-rate-requires c =
     let p = parts c.args.inputs.now _ _ _ c.total_withdrawn-load.ensures c.total_earned-earned.ensures c.at-paid.ensures in
-    let few = total_load-up-to (basis_of c.args.inputs.now) (inputs_in_ranges c.args.inputs.now) in
+    let few = total_load_up_to (basis_of c.args.inputs.now) (inputs_in_ranges c.args.inputs.now) in
     record { amount = omega (arith, ints); load = omega (arith, ints) }
 
 pub returns : goal.returns

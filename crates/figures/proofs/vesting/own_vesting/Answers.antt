@@ -8,7 +8,7 @@ use Rattle.figures.specs.Working.{nothing_injected}
 use Rattle.records.specs.declared.inputs.Inputs.{Inputs}
 use Rattle.records.specs.declared.inputs.Tranches.{Tranches}
 use Rattle.figures.proofs.Balanced.{filled_more}
-use Rattle.figures.proofs.Gathered.{inputs_in_ranges, total-VCRP, totalled_priced}
+use Rattle.figures.proofs.Gathered.{inputs_in_ranges, total_vcrp, totalled_priced}
 use Rattle.figures.proofs.vesting.own_vesting.Goals as goal
 
 pub loop-k-init : goal.loop-k-init
@@ -33,7 +33,7 @@ paid i k p r t lt price e =
 pub loop-k-preserved : goal.loop-k-preserved
 loop-k-preserved c =
     let i = c.args.inputs.now in
-    let price = c.reference_price-reference.ensures ∙ total-VCRP (basis_of i) (suc c.loop-k.k) _ (c.requires c.loop-k.k c.loop-k-test.true) in
+    let price = c.reference_price-reference.ensures ∙ total_vcrp (basis_of i) (suc c.loop-k.k) _ (c.requires c.loop-k.k c.loop-k-test.true) in
     let within : c.loop-k.k < length i.vestings = search rules in
     let lt : c.loop-k.k < length c.loop-k.amounts = omega arith in
     (length-set c.loop-k.amounts c.loop-k.k _ ∙ c.loop-k.invariant.0, filled_more (own_vcsc_of (basis_of i)) c.loop-k.amounts c.loop-k.k _ lt c.loop-k.invariant.1 (paid i c.loop-k.k _ _ c.index-inputs-k.result within price c.from_tranches.ensures))

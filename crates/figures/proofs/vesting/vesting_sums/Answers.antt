@@ -3,13 +3,13 @@ use Rattle.std.proofs.lemmas.Int.{ints}
 use Rattle.formulas.specs.Figures.{vcsc_of, own_vcsc_of}
 use Rattle.figures.specs.Meaning.{basis_of}
 use Rattle.figures.proofs.Balanced.{balanced_same}
-use Rattle.formulas.proofs.Bounds.{own-VCSC-around}
+use Rattle.formulas.proofs.Bounds.{own_vcsc_around}
 use Rattle.figures.proofs.Gathered.{inputs_in_ranges}
 use Rattle.figures.proofs.vesting.vesting_sums.Goals as goal
 
 pub balance_out-requires : goal.balance_out-requires
 balance_out-requires c =
-    record { account = c.args.inputs.now.counterparty_ok; modest = λ a ok. omega (arith, ints, c.own_vesting-amounts.ensures a ok, own-VCSC-around (basis_of c.args.inputs.now) (inputs_in_ranges c.args.inputs.now) a) }
+    record { account = c.args.inputs.now.counterparty_ok; modest = λ a ok. omega (arith, ints, c.own_vesting-amounts.ensures a ok, own_vcsc_around (basis_of c.args.inputs.now) (inputs_in_ranges c.args.inputs.now) a) }
 
 pub returns : goal.returns
 unfolding vcsc_of

@@ -1,18 +1,18 @@
 use Rattle.std.proofs.Common.{◌≡◌, add-one, arith, rules}
-use Rattle.figures.proofs.Written.{net-around, net_is, six-around, six_at}
+use Rattle.figures.proofs.Written.{net_around, net_is, six_around, six_at}
 use Rattle.figures.proofs.worked.line_of.Goals as goal
 
 pub net-nasc-requires : goal.net-nasc-requires
 net-nasc-requires c =
     let six = six_at c.args.inputs.now c.args.sums.now c.args.k _ _ _ _ c.requires.place (search rules) c.requires.sums c.withdrawn.ensures c.at-lesd.ensures c.requires.share in
-    let b = six-around c.args.inputs.now c.args.k c.requires.place _ _ _ _ _ _ six in
+    let b = six_around c.args.inputs.now c.args.k c.requires.place _ _ _ _ _ _ six in
     record { gesc = b.0; lesd = b.1; bsc = b.2; vcsc = b.3; fee = b.4; heuc = b.5 }
 
 pub invariant_of-result : goal.invariant_of-result
 invariant_of-result c =
     let six = six_at c.args.inputs.now c.args.sums.now c.args.k _ _ _ _ c.requires.place (search rules) c.requires.sums c.withdrawn.ensures c.at-lesd.ensures c.requires.share in
-    let b = six-around c.args.inputs.now c.args.k c.requires.place _ _ _ _ _ _ six in
-    (omega (arith, c.requires.place), (b.0, (b.1, (b.2, (b.3, (b.4, (b.5, (net-around c.args.inputs.now c.args.k c.requires.place _ _ _ _ _ _ six _ c.net-nasc.ensures, tt))))))))
+    let b = six_around c.args.inputs.now c.args.k c.requires.place _ _ _ _ _ _ six in
+    (omega (arith, c.requires.place), (b.0, (b.1, (b.2, (b.3, (b.4, (b.5, (net_around c.args.inputs.now c.args.k c.requires.place _ _ _ _ _ _ six _ c.net-nasc.ensures, tt))))))))
 
 pub returns : goal.returns
 returns c =

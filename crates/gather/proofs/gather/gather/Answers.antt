@@ -4,7 +4,7 @@ use Rattle.std.specs.Option.{option_map}
 use Rattle.register.specs.Keys.{of_half_hour}
 use Rattle.register.specs.Rows.{is_at, lookup}
 use Rattle.register.proofs.Keys.{half_hour_tells}
-use Rattle.gather.proofs.Passes.{elsewhere, kept_more, lookup-same, read_as}
+use Rattle.gather.proofs.Passes.{elsewhere, kept_more, lookup_same, read_as}
 use Rattle.gather.proofs.gather.gather.Goals as goal
 use Rattle.gather.proofs.gather.gather.Goals.{in-Some+then-eq, in-Some+else-eq, in_default}
 
@@ -37,10 +37,10 @@ loop-slot-preserved g c = λ i l.
           let dated = g.met.V.From.Placed.dated h.day h.interval i in
           let away = elsewhere g.V.From.Row.carried w.in-Some.row k h.day h.interval dated.0 dated.1 other in
           let not : is_at g.V.From.Row.carried k c.slot-item.result ≡ false = ap (is_at g.V.From.Row.carried k) w.in-Some.is ∙ away in
-          ap (λ xs. option_map g.V.View.meaning (get_or xs i None)) w.held-is ∙ was ∙ ap (option_map g.V.View.seen) (sym (lookup-same g.V.From.Row.carried c.args.rows.now m c.slot-item.result k c.loop-slot-test.true c.slot-item.is not)))
+          ap (λ xs. option_map g.V.View.meaning (get_or xs i None)) w.held-is ∙ was ∙ ap (option_map g.V.View.seen) (sym (lookup_same g.V.From.Row.carried c.args.rows.now m c.slot-item.result k c.loop-slot-test.true c.slot-item.is not)))
       | in_default w ↦ (
           let not : is_at g.V.From.Row.carried k c.slot-item.result ≡ false = ap (is_at g.V.From.Row.carried k) w.in_default.is in
-          ap (λ xs. option_map g.V.View.meaning (get_or xs i None)) w.held-is ∙ was ∙ ap (option_map g.V.View.seen) (sym (lookup-same g.V.From.Row.carried c.args.rows.now m c.slot-item.result k c.loop-slot-test.true c.slot-item.is not)))
+          ap (λ xs. option_map g.V.View.meaning (get_or xs i None)) w.held-is ∙ was ∙ ap (option_map g.V.View.seen) (sym (lookup_same g.V.From.Row.carried c.args.rows.now m c.slot-item.result k c.loop-slot-test.true c.slot-item.is not)))
     ]
 
 pub returns : goal.returns

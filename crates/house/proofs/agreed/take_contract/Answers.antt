@@ -3,14 +3,14 @@ use Rattle.units.specs.Checks.{Check, first_met}
 use Rattle.calls.specs.declared.ContractCall.{ContractCall}
 use Rattle.register.specs.Keys.{Numbers, interval_key}
 use Rattle.register.specs.Rows.{place, placed}
-use Rattle.register.proofs.Mapped.{placed-mapped}
+use Rattle.register.proofs.Mapped.{placed_mapped}
 use Rattle.rows.specs.Meaning.{ContractSaid, contract_named, contract_rows, contract_says, interval_rows}
 use Rattle.rows.specs.declared.contract.ContractRow.{ContractRow}
 use Rattle.house.specs.Calls.{contract_given, half_hour_key, is_contract}
 use Rattle.house.specs.Open.{check, if_open, open_at}
 use Rattle.house.specs.Rows.{reading_phase}
 use Rattle.house.proofs.Answering.{handed_on}
-use Rattle.house.proofs.Terms.{past-phase, place_check, refused-party, refused-phase, refused-range}
+use Rattle.house.proofs.Terms.{past_phase, place_check, refused_party, refused_phase, refused_range}
 use Rattle.house.proofs.agreed.take_contract.Goals as goal
 
 abbrev carried : ContractRow → Numbers
@@ -34,7 +34,7 @@ returns-in_err-row c =
     record {
       answer =
           handed_on c.from_residual.result c.in_err-row.field-0.0 c.from_residual.ensures.1
-          ∙ refused-range (not (is_contract call)) (eqb (nat_abs call.seller) (nat_abs call.buyer)) o (ten call (contract_rows c.args.contracts.now)) c.in_err-row.field-0.0 c.in_err-row.ensures.answer;
+          ∙ refused_range (not (is_contract call)) (eqb (nat_abs call.seller) (nat_abs call.buyer)) o (ten call (contract_rows c.args.contracts.now)) c.in_err-row.field-0.0 c.in_err-row.ensures.answer;
       contracts = search rules;
     }
 
@@ -45,7 +45,7 @@ returns-in_err-check_apart c =
     record {
       answer =
           handed_on c.from_residual-in_err-check_apart.result c.in_err-check_apart.field-0.0 c.from_residual-in_err-check_apart.ensures.1
-          ∙ refused-party (not (is_contract call)) (eqb (nat_abs call.seller) (nat_abs call.buyer)) o (ten call (contract_rows c.args.contracts.now)) c.in_err-check_apart.field-0.0 c.in_ok-row.ensures.answer
+          ∙ refused_party (not (is_contract call)) (eqb (nat_abs call.seller) (nat_abs call.buyer)) o (ten call (contract_rows c.args.contracts.now)) c.in_err-check_apart.field-0.0 c.in_ok-row.ensures.answer
           (c.in_err-check_apart.ensures ∙ parties_given c.in_ok-row.row call c.in_ok-row.ensures.row);
       contracts = search rules;
     }
@@ -58,7 +58,7 @@ returns-in_err-check_reading c =
     record {
       answer =
           handed_on c.from_residual-in_err-check_reading.result c.in_err-check_reading.field-0.0 c.from_residual-in_err-check_reading.ensures.1
-          ∙ refused-phase (not (is_contract call)) (eqb (nat_abs call.seller) (nat_abs call.buyer)) (open_at is (half_hour_key call.day call.interval)) (ten call (contract_rows c.args.contracts.now)) c.in_err-check_reading.field-0.0 c.in_ok-row.ensures.answer
+          ∙ refused_phase (not (is_contract call)) (eqb (nat_abs call.seller) (nat_abs call.buyer)) (open_at is (half_hour_key call.day call.interval)) (ten call (contract_rows c.args.contracts.now)) c.in_err-check_reading.field-0.0 c.in_ok-row.ensures.answer
           (c.in_ok-check_apart.ensures ∙ parties_given c.in_ok-row.row call given)
           (c.in_err-check_reading.ensures ∙ ap (λ k. first_met (if_open (open_at is k) reading_phase)) (half_hour_given c.in_ok-row.row call given));
       contracts = search rules;
@@ -74,7 +74,7 @@ returns-in_err-put_row c =
     record {
       answer =
           handed_on c.from_residual-in_err-put_row.result c.in_err-put_row.field-0.0 c.from_residual-in_err-put_row.ensures.1
-          ∙ past-phase (not (is_contract call)) (eqb (nat_abs call.seller) (nat_abs call.buyer)) (open_at is (half_hour_key call.day call.interval)) (ten call (contract_rows rows)) _ c.in_ok-row.ensures.answer
+          ∙ past_phase (not (is_contract call)) (eqb (nat_abs call.seller) (nat_abs call.buyer)) (open_at is (half_hour_key call.day call.interval)) (ten call (contract_rows rows)) _ c.in_ok-row.ensures.answer
           (c.in_ok-check_apart.ensures ∙ parties_given r call given)
           (c.in_ok-check_reading.ensures ∙ ap (λ k. first_met (if_open (open_at is k) reading_phase)) (half_hour_given r call given))
           (c.in_err-put_row.ensures.answer ∙ place_check carried contract_named contract_says (λ x. refl) rows (carried r) (contract_given call).key (ap (λ s. s.key) given));
@@ -90,9 +90,9 @@ returns c =
     let given = c.in_ok-row.ensures.row in
     record {
       answer =
-          past-phase (not (is_contract call)) (eqb (nat_abs call.seller) (nat_abs call.buyer)) (open_at is (half_hour_key call.day call.interval)) (ten call (contract_rows rows)) _ c.in_ok-row.ensures.answer
+          past_phase (not (is_contract call)) (eqb (nat_abs call.seller) (nat_abs call.buyer)) (open_at is (half_hour_key call.day call.interval)) (ten call (contract_rows rows)) _ c.in_ok-row.ensures.answer
           (c.in_ok-check_apart.ensures ∙ parties_given r call given)
           (c.in_ok-check_reading.ensures ∙ ap (λ k. first_met (if_open (open_at is k) reading_phase)) (half_hour_given r call given))
           (c.in_ok-put_row.ensures.answer ∙ place_check carried contract_named contract_says (λ x. refl) rows (carried r) (contract_given call).key (ap (λ s. s.key) given));
-      contracts = ap contract_rows c.in_ok-put_row.ensures.rows ∙ placed-mapped carried contract_named contract_says (λ x. refl) rows r ∙ ap (placed contract_named (contract_rows rows)) given;
+      contracts = ap contract_rows c.in_ok-put_row.ensures.rows ∙ placed_mapped carried contract_named contract_says (λ x. refl) rows r ∙ ap (placed contract_named (contract_rows rows)) given;
     }

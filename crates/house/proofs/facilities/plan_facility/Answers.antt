@@ -4,13 +4,13 @@ use Rattle.units.specs.Checks.{Check, first_met}
 use Rattle.calls.specs.declared.FacilityCall.{FacilityCall}
 use Rattle.register.specs.Keys.{interval_key}
 use Rattle.register.specs.Rows.{lookup}
-use Rattle.register.proofs.Rows.{lookup-carries}
+use Rattle.register.proofs.Rows.{lookup_carries}
 use Rattle.rows.specs.Meaning.{FacilitySaid, IntervalSaid, facility_named, facility_rows, interval_named, interval_rows, interval_says}
 use Rattle.house.specs.Calls.{facility_given, half_hour_key, is_facility}
 use Rattle.house.specs.Open.{check, if_open, open_at, put_row}
 use Rattle.house.specs.Readings.{facility_left, facility_row_checks, sort_at, sort_of, stamp_checks, stamped}
 use Rattle.house.proofs.Answering.{handed_on, stops}
-use Rattle.house.proofs.Plans.{at_stamp, moved-is, not_open, past_open, past_stamp, sort-is, stamp_refuses}
+use Rattle.house.proofs.Plans.{at_stamp, moved_is, not_open, past_open, past_stamp, sort_is, stamp_refuses}
 use Rattle.house.proofs.facilities.plan_facility.Goals as goal
 
 -- the checks that depend on the interval
@@ -83,7 +83,7 @@ returns-in_err-facility c =
     let more = facility_row_checks (facility_given call) (sort_at call.days call.minute i) fs in
     let stamp = c.in_ok-taken.ensures.stamp in
     let s = c.in_ok-taken.taken.stamp in
-    let sort : sort_at call.days call.minute i ≡ Some c.in_ok-sort.sort = sort-is call.days call.minute s stamp.0 stamp.1 i c.in_ok-sort.sort c.in_ok-sort.ensures.sort in
+    let sort : sort_at call.days call.minute i ≡ Some c.in_ok-sort.sort = sort_is call.days call.minute s stamp.0 stamp.1 i c.in_ok-sort.sort c.in_ok-sort.ensures.sort in
     record {
       answer =
           handed_on c.from_residual-in_err-facility.result c.in_err-facility.field-0.0 c.from_residual-in_err-facility.ensures.1
@@ -111,7 +111,7 @@ returns c =
     let more = facility_row_checks (facility_given call) (sort_at call.days call.minute i) fs in
     let stamp = c.in_ok-taken.ensures.stamp in
     let s = c.in_ok-taken.taken.stamp in
-    let sort : sort_at call.days call.minute i ≡ Some c.in_ok-sort.sort = sort-is call.days call.minute s stamp.0 stamp.1 i c.in_ok-sort.sort c.in_ok-sort.ensures.sort in
+    let sort : sort_at call.days call.minute i ≡ Some c.in_ok-sort.sort = sort_is call.days call.minute s stamp.0 stamp.1 i c.in_ok-sort.sort c.in_ok-sort.ensures.sort in
     let given = c.in_ok-taken.ensures.row in
     let kept = c.moved-row.ensures.kept in
     let moved = c.moved-row.result in
@@ -125,8 +125,8 @@ returns c =
           (rest call fs)
           c.in_ok-taken.ensures.answer found;
       intervals =
-          c.in_ok-opened.ensures.writes moved (ap (λ h. interval_key h.day h.interval) kept.0 ∙ lookup-carries interval_named is _ i c.in_ok-opened.ensures.found)
-          ∙ ap (λ j. put_row interval_named is (Some j)) (moved-is call.days call.minute s stamp.0 stamp.1 opened moved opened.phase kept.0 kept.1 kept.2 kept.3 c.moved-row.ensures.phase c.moved-row.ensures.last)
+          c.in_ok-opened.ensures.writes moved (ap (λ h. interval_key h.day h.interval) kept.0 ∙ lookup_carries interval_named is _ i c.in_ok-opened.ensures.found)
+          ∙ ap (λ j. put_row interval_named is (Some j)) (moved_is call.days call.minute s stamp.0 stamp.1 opened moved opened.phase kept.0 kept.1 kept.2 kept.3 c.moved-row.ensures.phase c.moved-row.ensures.last)
           ∙ ap (λ o. put_row interval_named is (option_map (stamped call.days call.minute) o)) (sym found);
       facilities =
           c.in_ok-facility.ensures.row

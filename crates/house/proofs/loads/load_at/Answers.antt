@@ -3,8 +3,8 @@ use Rattle.std.specs.Option.{option_map}
 use Rattle.units.specs.Checks.{first_met}
 use Rattle.register.specs.Keys.{Numbers}
 use Rattle.register.specs.Rows.{lookup, place}
-use Rattle.register.proofs.Mapped.{lookup-mapped, place-mapped}
-use Rattle.register.proofs.Rows.{lookup-carries}
+use Rattle.register.proofs.Mapped.{lookup_mapped, place_mapped}
+use Rattle.register.proofs.Rows.{lookup_carries}
 use Rattle.rows.specs.Meaning.{load_named, load_rows, load_says}
 use Rattle.rows.specs.declared.load.LoadReading.{LoadReading}
 use Rattle.house.specs.Open.{check}
@@ -22,7 +22,7 @@ returns-in_err-row c =
     let new = load_says c.args.reading.now in
     let sort = c.args.sort in
     let same : option_map load_says c.seek-sought.result.row ≡ lookup load_named (load_rows rows) new.key =
-    ap (option_map load_says) c.seek-sought.ensures.row ∙ sym (lookup-mapped carried load_named load_says (λ r. refl) rows new.key) in
+    ap (option_map load_says) c.seek-sought.ensures.row ∙ sym (lookup_mapped carried load_named load_says (λ r. refl) rows new.key) in
     let ten = check 10 (not (is_some (place load_named (load_rows rows) new.key))) in
     record {
       answer =
@@ -39,9 +39,9 @@ returns-in-Some c =
     let sort = c.args.sort in
     let old = option_map load_says c.seek-sought.result.row in
     let same : old ≡ lookup load_named (load_rows rows) new.key =
-    ap (option_map load_says) c.seek-sought.ensures.row ∙ sym (lookup-mapped carried load_named load_says (λ r. refl) rows new.key) in
+    ap (option_map load_says) c.seek-sought.ensures.row ∙ sym (lookup_mapped carried load_named load_says (λ r. refl) rows new.key) in
     let at : place carried rows new.key ≡ Some c.in-Some.index = sym c.seek-sought.ensures.place ∙ c.in-Some.is in
-    let there : place load_named (load_rows rows) new.key ≡ Some c.in-Some.index = place-mapped carried load_named load_says (λ r. refl) rows new.key ∙ at in
+    let there : place load_named (load_rows rows) new.key ≡ Some c.in-Some.index = place_mapped carried load_named load_says (λ r. refl) rows new.key ∙ at in
     let ten = check 10 (not (is_some (place load_named (load_rows rows) new.key))) in
     let left = c.in_ok-row.ensures.row in
     record {
@@ -52,7 +52,7 @@ returns-in-Some c =
       row =
           written carried load_named load_says (λ r. refl) rows new.key c.in-Some.index c.in_ok-row.row (load_left new (Some sort) (lookup load_named (load_rows rows) new.key)) at
           (ap (load_left new (Some sort)) (sym same) ∙ left)
-          (load_left_key new (load_says c.in_ok-row.row) sort old (λ o e. lookup-carries load_named (load_rows rows) new.key o (sym same ∙ e)) left);
+          (load_left_key new (load_says c.in_ok-row.row) sort old (λ o e. lookup_carries load_named (load_rows rows) new.key o (sym same ∙ e)) left);
     }
 
 pub returns-in-None : goal.returns-in-None
@@ -62,9 +62,9 @@ returns-in-None c =
     let sort = c.args.sort in
     let old = option_map load_says c.seek-sought.result.row in
     let same : old ≡ lookup load_named (load_rows rows) new.key =
-    ap (option_map load_says) c.seek-sought.ensures.row ∙ sym (lookup-mapped carried load_named load_says (λ r. refl) rows new.key) in
+    ap (option_map load_says) c.seek-sought.ensures.row ∙ sym (lookup_mapped carried load_named load_says (λ r. refl) rows new.key) in
     let nowhere : place load_named (load_rows rows) new.key ≡ None =
-    place-mapped carried load_named load_says (λ r. refl) rows new.key ∙ sym c.seek-sought.ensures.place ∙ c.in-None.is in
+    place_mapped carried load_named load_says (λ r. refl) rows new.key ∙ sym c.seek-sought.ensures.place ∙ c.in-None.is in
     let ten = check 10 (not (is_some (place load_named (load_rows rows) new.key))) in
     record {
       answer =

@@ -3,8 +3,8 @@ use Rattle.std.specs.Option.{option_map}
 use Rattle.units.specs.Checks.{first_met}
 use Rattle.register.specs.Keys.{Numbers, interval_key}
 use Rattle.register.specs.Rows.{lookup, place}
-use Rattle.register.proofs.Mapped.{lookup-mapped, written-mapped}
-use Rattle.register.proofs.Rows.{lookup-no-place}
+use Rattle.register.proofs.Mapped.{lookup_mapped, written_mapped}
+use Rattle.register.proofs.Rows.{lookup_no_place}
 use Rattle.rows.specs.Meaning.{interval_named, interval_rows, interval_says}
 use Rattle.rows.specs.declared.interval.Interval.{Interval}
 use Rattle.house.specs.Open.{if_open, open_at}
@@ -14,7 +14,7 @@ abbrev carried : Interval → Numbers
 carried i = (interval_says i).key
 
 open_is : (rows : List (Option Interval)) (k : Numbers) (o : Option Interval) → o ≡ lookup carried rows k → open_at (interval_rows rows) k ≡ option_map interval_says o
-open_is rows k o e = lookup-mapped carried interval_named interval_says (λ r. refl) rows k ∙ ap (option_map interval_says) (sym e)
+open_is rows k o e = lookup_mapped carried interval_named interval_says (λ r. refl) rows k ∙ ap (option_map interval_says) (sym e)
 
 none_answers : (rows : List (Option Interval)) (k : Numbers) → None ≡ lookup carried rows k → 4 ≡ first_met (if_open (open_at (interval_rows rows) k) (λ _. []))
 none_answers rows k e = ap (λ o. first_met (if_open o (λ _. []))) (sym (open_is rows k None e))
@@ -27,7 +27,7 @@ returns-in-Some-place c =
     record {
       answer = ap (λ o. first_met (if_open o (λ _. []))) (sym found);
       found = found;
-      writes = λ i e. written-mapped carried interval_named interval_says (λ r. refl) rows c.in-Some-place.index i (ap (place carried rows) e ∙ sym c.seek-sought.ensures.place ∙ c.in-Some-place.is);
+      writes = λ i e. written_mapped carried interval_named interval_says (λ r. refl) rows c.in-Some-place.index i (ap (place carried rows) e ∙ sym c.seek-sought.ensures.place ∙ c.in-Some-place.is);
     }
 
 pub returns-in-None-place : goal.returns-in-None-place
@@ -35,7 +35,7 @@ returns-in-None-place c =
     let rows = c.args.intervals.now in
     let h = c.args.half_hour in
     let k = interval_key h.day h.interval in
-    record { answer = none_answers rows k (sym (lookup-no-place carried rows k (sym c.seek-sought.ensures.place ∙ c.in-None-place.is))); found = tt; writes = tt }
+    record { answer = none_answers rows k (sym (lookup_no_place carried rows k (sym c.seek-sought.ensures.place ∙ c.in-None-place.is))); found = tt; writes = tt }
 
 pub returns-in-None : goal.returns-in-None
 returns-in-None c =

@@ -3,7 +3,7 @@ use Rattle.units.specs.Ranges.{inside, account_range, contract_range, fraction_r
 use Rattle.units.specs.Refusals.{refusal_number}
 use Rattle.house.specs.Calls.{is_contract, is_half_hour}
 use Rattle.house.proofs.Answering.{handed_on, outside, within, second_fails, two_pass}
-use Rattle.house.proofs.Given.{contract-is}
+use Rattle.house.proofs.Given.{contract_is}
 use Rattle.house.proofs.taken.taken_contract.Goals as goal
 
 pub returns-in_err-row : goal.returns-in_err-row
@@ -33,5 +33,5 @@ returns c =
     let i : pos r.bif ≡ call.bif = search rules in
     record {
       answer = within (is_contract call) (two_pass _ _ h f);
-      row = contract-is half_hour call.day call.interval d t r call refl refl c.in_ok-row.ensures.made.0 n s b q w i;
+      row = contract_is half_hour call.day call.interval d t r call refl refl c.in_ok-row.ensures.made.0 n s b q w i;
     }

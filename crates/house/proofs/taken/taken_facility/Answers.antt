@@ -3,7 +3,7 @@ use Rattle.units.specs.Ranges.{inside, account_range, facility_range, injection_
 use Rattle.units.specs.Refusals.{refusal_number}
 use Rattle.house.specs.Calls.{is_facility, is_half_hour, is_stamp, uncorrected}
 use Rattle.house.proofs.Answering.{handed_on, outside, within, middle_fails, third_fails, three_pass}
-use Rattle.house.proofs.Given.{as_given, facility-is}
+use Rattle.house.proofs.Given.{as_given, facility_is}
 use Rattle.house.proofs.taken.taken_facility.Goals as goal
 
 pub returns-in_err-row : goal.returns-in_err-row
@@ -47,6 +47,6 @@ returns c =
     let minute : pos c.in_ok-stamp.stamp.minute ≡ call.minute = search rules in
     record {
       answer = within (is_facility call) (three_pass _ _ _ h f s);
-      row = facility-is half_hour call.day call.interval d t r call refl refl c.in_ok-row.ensures.made.0 n a m q;
+      row = facility_is half_hour call.day call.interval d t r call refl refl c.in_ok-row.ensures.made.0 n a m q;
       stamp = (as_given _ _ days, as_given _ _ minute);
     }

@@ -3,7 +3,7 @@ use Rattle.units.specs.Ranges.{inside, price_range, rate_range}
 use Rattle.units.specs.Refusals.{refusal_number}
 use Rattle.house.specs.Calls.{is_interval, is_half_hour}
 use Rattle.house.proofs.Answering.{handed_on, outside, within, second_fails, two_pass}
-use Rattle.house.proofs.Given.{interval-is}
+use Rattle.house.proofs.Given.{interval_is}
 use Rattle.house.proofs.taken.taken_interval.Goals as goal
 
 pub returns-in_err-row : goal.returns-in_err-row
@@ -29,5 +29,5 @@ returns c =
     let f' : r.rate.0 ≡ call.rate = search rules in
     record {
       answer = within (is_interval call) (two_pass _ _ h f);
-      row = interval-is half_hour call.day call.interval d t r call refl refl c.in_ok-row.ensures.made.0 u f' c.in_ok-row.ensures.made.3 c.in_ok-row.ensures.made.4 c.in_ok-row.ensures.made.5 c.in_ok-row.ensures.made.6;
+      row = interval_is half_hour call.day call.interval d t r call refl refl c.in_ok-row.ensures.made.0 u f' c.in_ok-row.ensures.made.3 c.in_ok-row.ensures.made.4 c.in_ok-row.ensures.made.5 c.in_ok-row.ensures.made.6;
     }

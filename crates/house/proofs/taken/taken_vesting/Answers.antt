@@ -3,7 +3,7 @@ use Rattle.units.specs.Ranges.{inside, account_range, price_range, quantity_rang
 use Rattle.units.specs.Refusals.{refusal_number}
 use Rattle.house.specs.Calls.{is_vesting, is_half_hour}
 use Rattle.house.proofs.Answering.{handed_on, outside, within, second_fails, two_pass}
-use Rattle.house.proofs.Given.{vesting-is}
+use Rattle.house.proofs.Given.{vesting_is}
 use Rattle.house.proofs.taken.taken_vesting.Goals as goal
 
 pub returns-in_err-row : goal.returns-in_err-row
@@ -31,5 +31,5 @@ returns c =
     let q : r.quantity.0 ≡ call.quantity = search rules in
     record {
       answer = within (is_vesting call) (two_pass _ _ h f);
-      row = vesting-is half_hour call.day call.interval d t r call refl refl c.in_ok-row.ensures.made.0 a n p q;
+      row = vesting_is half_hour call.day call.interval d t r call refl refl c.in_ok-row.ensures.made.0 a n p q;
     }

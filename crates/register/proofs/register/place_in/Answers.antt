@@ -1,7 +1,7 @@
 use Rattle.std.proofs.Common.{◌≡◌, ℕ, ◌+◌, ◌<◌, true, false, drop, IfSome, Option, sym, subst}
 use Rattle.std.proofs.lemmas.List.{drop_all}
 use Rattle.register.specs.Keys.{same_key}
-use Rattle.register.proofs.Rows.{drop_item, first_free, kept_free, place-all, place_here, place_none, place-past, place-vacant}
+use Rattle.register.proofs.Rows.{drop_item, first_free, kept_free, place_all, place_here, place_none, place_past, place_vacant}
 use Rattle.register.proofs.register.place_in.Goals as goal
 use Rattle.register.proofs.register.place_in.Goals.{in-Some+else-eq, in-None+then-is_none, in-None+else-is_none}
 
@@ -32,16 +32,16 @@ loop-i-preserved g c =
         | in-Some+else-eq w ↦ (
             let told = g.met.R.Row.tells w.key.result c.args.key false w.if-eq.ensures in
             let other : same_key (g.R.Row.carried w.in-Some.row) k ≡ false = cc in
-            let past = place-past g.R.Row.carried i c.loop-i.vacant w.in-Some.row rest k other in
+            let past = place_past g.R.Row.carried i c.loop-i.vacant w.in-Some.row rest k other in
             let v = w.vacant-is in
             cc)
         | in-None+then-is_none w ↦ (
-            let past = place-vacant g.R.Row.carried i c.loop-i.vacant rest k in
+            let past = place_vacant g.R.Row.carried i c.loop-i.vacant rest k in
             let free = first_free c.loop-i.vacant i w.if-is_none.ensures in
             let v = w.vacant-is in
             cc)
         | in-None+else-is_none w ↦ (
-            let past = place-vacant g.R.Row.carried i c.loop-i.vacant rest k in
+            let past = place_vacant g.R.Row.carried i c.loop-i.vacant rest k in
             let free = kept_free c.loop-i.vacant i w.if-is_none.ensures in
             let v = w.vacant-is in
             cc)
@@ -57,6 +57,6 @@ pub returns : goal.returns
 returns g c =
     let k = g.R.Row.numbers c.args.key in
     let end = drop_all c.loop-i.i c.args.rows.now c.loop-i-test.false in
-    let all = place-all g.R.Row.carried c.loop-i.i c.loop-i.vacant k in
+    let all = place_all g.R.Row.carried c.loop-i.i c.loop-i.vacant k in
     let inv = c.loop-i.invariant.0 in
     record { value = cc; within = c.loop-i.invariant.1 }

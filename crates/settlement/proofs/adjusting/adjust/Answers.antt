@@ -13,7 +13,7 @@ use Rattle.house.proofs.Answering.{Numbered, handed_on, passes, stops}
 use Rattle.statement.specs.Statements.{is_stamped, stamped_key}
 use Rattle.settlement.specs.Steps.{adjusted_house, adjusting_stamp, adjusts}
 use Rattle.settlement.specs.declared.step.Step.{Step}
-use Rattle.book.proofs.Amounts.{checks-same, settled_same, turns_same}
+use Rattle.book.proofs.Amounts.{checks_same, settled_same, turns_same}
 use Rattle.settlement.proofs.Joining.{two_are_one}
 use Rattle.settlement.proofs.adjusting.adjust.Goals as goal
 
@@ -77,7 +77,7 @@ returns-in_err-post_statement g c =
       answer =
           handed_on c.from_residual-in_err-post_statement.result c.in_err-post_statement.field-0.0 c.from_residual-in_err-post_statement.ensures.1
           ∙ c.in_err-post_statement.ensures.answer
-          ∙ checks-same amount (adjusts step h i fs ls) plan.planned.amounts held room
+          ∙ checks_same amount (adjusts step h i fs ls) plan.planned.amounts held room
           ∙ past_plan (not (is_stamped call)) (open_at is (stamped_key call)) i (planned step call h fs ls) (λ j. statement_checks held room (adjusts step h j fs ls)) plan.planned.opened (numbered (not (is_stamped call)) step call h fs ls i) plan.answer;
       intervals = search rules;
       house = search rules;
@@ -105,7 +105,7 @@ returns g c =
     record {
       answer =
           posted.answer
-          ∙ checks-same amount (adjusts step h i fs ls) plan.planned.amounts held room
+          ∙ checks_same amount (adjusts step h i fs ls) plan.planned.amounts held room
           ∙ past_plan (not (is_stamped call)) (open_at is (stamped_key call)) i (planned step call h fs ls) (λ j. statement_checks held room (adjusts step h j fs ls)) plan.planned.opened (numbered (not (is_stamped call)) step call h fs ls i) plan.answer;
       intervals = ap interval_rows c.write_interval.ensures ∙ plan.intervals;
       house = λ j e. plan.planned.house ∙ ap (λ k. adjusted_house step h k fs ls) (some_same i j (sym plan.planned.opened ∙ e));

@@ -6,13 +6,13 @@ use Rattle.units.specs.Stamps.{earlier, window}
 use Rattle.units.specs.declared.stamp.Stamp.{Stamp}
 use Rattle.calls.specs.declared.StampedCall.{StampedCall}
 use Rattle.formulas.specs.Sums.{sum}
-use Rattle.register.proofs.Rows.{lookup-carries}
+use Rattle.register.proofs.Rows.{lookup_carries}
 use Rattle.rows.specs.Meaning.{IntervalSaid, FacilitySaid, LoadSaid, facility_rows, interval_named, interval_rows, interval_says, load_rows}
 use Rattle.rows.specs.Phases.{phase_number}
 use Rattle.house.specs.Open.{check, if_open, moved_to, open_at, put_row}
 use Rattle.house.specs.State.{HouseState, house_says, key_of, with_pending}
 use Rattle.house.proofs.Answering.{handed_on, passes, stops}
-use Rattle.house.proofs.Plans.{moved-is, not_open, past_open}
+use Rattle.house.proofs.Plans.{moved_is, not_open, past_open}
 use Rattle.statement.specs.Statements.{is_stamped, stamped_key}
 use Rattle.settlement.specs.Steps.{adjusting_stamp, adjusts, from_phase, last_window, to_phase}
 use Rattle.settlement.specs.declared.step.Step.{Step}
@@ -135,8 +135,8 @@ returns c =
           ∙ past_stamp step call i (fifteen step h fs ls i ∷ []) (c.in_ok-check_stamp.ensures ∙ at_stamp step call s stamp.0 stamp.1 i)
           ∙ past_open (not (is_stamped call)) (open_at is (stamped_key call)) i (rest step call h fs ls) c.in_ok-taken.ensures.answer found;
       intervals =
-          c.in_ok-opened.ensures.writes moved (ap key_of kept.0 ∙ lookup-carries interval_named is _ i c.in_ok-opened.ensures.found)
-          ∙ ap (λ j. put_row interval_named is (Some j)) (moved-is call.days call.minute s stamp.0 stamp.1 opened moved (to_phase step) kept.0 kept.1 kept.2 kept.3 (c.moved-row.ensures.phase ∙ c.to_phase.ensures) c.moved-row.ensures.last)
+          c.in_ok-opened.ensures.writes moved (ap key_of kept.0 ∙ lookup_carries interval_named is _ i c.in_ok-opened.ensures.found)
+          ∙ ap (λ j. put_row interval_named is (Some j)) (moved_is call.days call.minute s stamp.0 stamp.1 opened moved (to_phase step) kept.0 kept.1 kept.2 kept.3 (c.moved-row.ensures.phase ∙ c.to_phase.ensures) c.moved-row.ensures.last)
           ∙ ap (λ o. put_row interval_named is (option_map (moved_to (to_phase step) call.days call.minute) o)) (sym found);
       planned = record {
         interval = i;

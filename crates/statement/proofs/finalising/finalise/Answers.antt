@@ -4,7 +4,7 @@ use Rattle.units.specs.Ranges.{accounts}
 use Rattle.units.specs.Refusals.{refusal_number}
 use Rattle.units.specs.declared.refusal.Refusal.{Refusal}
 use Rattle.book.specs.Statement.{InTurn, Settled, amount_of, statement_checks}
-use Rattle.book.proofs.Amounts.{checks-same, settled_same, turns_same}
+use Rattle.book.proofs.Amounts.{checks_same, settled_same, turns_same}
 use Rattle.figures.specs.Settled.{LineIs, LinesAre}
 use Rattle.figures.specs.declared.line.Line.{Line}
 use Rattle.formulas.specs.Basis.{Basis}
@@ -80,7 +80,7 @@ returns-in-Err-post_statement g c =
     let amount = amount_of c.credits-amounts.result in
     let same = c.credits-amounts.ensures (basis i) plan.figures.1.1.lines in
     record {
-      answer = c.in-Err-post_statement.ensures.answer ∙ checks-same amount (nasc_of (basis i)) same held room ∙ past_plan (is_stamp d m) (not (belongs st h.number is)) (open_at is (statement_key st)) i (rest d m n basis) (λ j. statement_checks held room (nasc_of (basis j))) found (numbered (not (is_stamp d m)) (not (belongs st h.number is)) d m n basis i) plan.answer;
+      answer = c.in-Err-post_statement.ensures.answer ∙ checks_same amount (nasc_of (basis i)) same held room ∙ past_plan (is_stamp d m) (not (belongs st h.number is)) (open_at is (statement_key st)) i (rest d m n basis) (λ j. statement_checks held room (nasc_of (basis j))) found (numbered (not (is_stamp d m)) (not (belongs st h.number is)) d m n basis i) plan.answer;
       intervals = search rules;
       house = search rules;
       lines = search rules;
@@ -109,7 +109,7 @@ returns g c =
     let posted = c.in_default.ensures in
     let new = c.post_statement.new.book in
     record {
-      answer = posted.answer ∙ checks-same amount (nasc_of (basis i)) same held room ∙ past_plan (is_stamp d m) (not (belongs st h.number is)) (open_at is (statement_key st)) i (rest d m n basis) (λ j. statement_checks held room (nasc_of (basis j))) found (numbered (not (is_stamp d m)) (not (belongs st h.number is)) d m n basis i) plan.answer;
+      answer = posted.answer ∙ checks_same amount (nasc_of (basis i)) same held room ∙ past_plan (is_stamp d m) (not (belongs st h.number is)) (open_at is (statement_key st)) i (rest d m n basis) (λ j. statement_checks held room (nasc_of (basis j))) found (numbered (not (is_stamp d m)) (not (belongs st h.number is)) d m n basis i) plan.answer;
       intervals = ap interval_rows c.write_interval.ensures ∙ plan.intervals;
       house = c.with_nothing_pending.ensures;
       lines = record {

@@ -9,7 +9,7 @@ use Rattle.units.specs.declared.stamp.Stamp.{Stamp}
 use Rattle.formulas.specs.Basis.{Basis}
 use Rattle.formulas.specs.Figures.{heua_of, heur_of, is_0, settling_checks, total_load, unfounded}
 use Rattle.formulas.specs.Sums.{some_of}
-use Rattle.register.proofs.Rows.{lookup-carries}
+use Rattle.register.proofs.Rows.{lookup_carries}
 use Rattle.rows.specs.Meaning.{IntervalSaid, contract_rows, facility_rows, interval_named, interval_rows, interval_says, load_rows, vesting_rows}
 use Rattle.rows.specs.declared.interval.Interval.{Interval}
 use Rattle.rows.specs.declared.phase.Phase.TheVariants.{Final}
@@ -187,7 +187,7 @@ returns c =
           ∙ past_stamp d m i (check 11 (ltb c.args.count accounts) ∷ settling_checks (basis i)) (c.in_ok-check_stamp.ensures ∙ stamp)
           ∙ past_two (is_stamp d m) (not (belongs st h.number is)) (open_at is (statement_key st)) i (rest d m c.args.count basis) good c.in_ok-opened.ensures.answer found;
       intervals =
-          c.in_ok-opened.ensures.writes c.in_ok-row.row (ap key_of (made.0 ∙ moved.kept.0) ∙ lookup-carries interval_named is (statement_key st) i found)
+          c.in_ok-opened.ensures.writes c.in_ok-row.row (ap key_of (made.0 ∙ moved.kept.0) ∙ lookup_carries interval_named is (statement_key st) i found)
           ∙ ap (λ j. put_row interval_named is (Some j)) (finalised_is opened c.moved-moved.result c.in_ok-row.row d m _ s (as_given _ _ days) (as_given _ _ minute) basis c.in_ok-figures.ensures.figures.uplift.rate moved.kept.0 moved.kept.1 moved.kept.2 moved.phase moved.last made.0 made.1 made.2 made.3 made.4 made.5)
           ∙ ap (λ o. put_row interval_named is (option_map (finalised d m basis) o)) (sym found);
       figures = (i, (found, c.in_ok-figures.ensures.figures));

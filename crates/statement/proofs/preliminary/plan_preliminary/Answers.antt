@@ -7,13 +7,13 @@ use Rattle.figures.specs.Settled.{FiguresAre}
 use Rattle.formulas.specs.Basis.{Basis}
 use Rattle.formulas.specs.Figures.{settling_checks}
 use Rattle.calls.specs.declared.StampedCall.{StampedCall}
-use Rattle.register.proofs.Rows.{lookup-carries}
+use Rattle.register.proofs.Rows.{lookup_carries}
 use Rattle.rows.specs.Meaning.{IntervalSaid, contract_rows, facility_rows, interval_named, interval_rows, interval_says, load_rows, vesting_rows}
 use Rattle.rows.specs.declared.phase.Phase.TheVariants.{Preliminary}
 use Rattle.house.specs.Open.{check, if_open, moved_to, open_at, put_row}
 use Rattle.house.specs.State.{house_says, key_of}
 use Rattle.house.proofs.Answering.{handed_on, passes, stops}
-use Rattle.house.proofs.Plans.{moved-is, not_open, past_open}
+use Rattle.house.proofs.Plans.{moved_is, not_open, past_open}
 use Rattle.statement.specs.Gathered.{basis_in}
 use Rattle.statement.specs.Statements.{is_stamped, preliminary_stamp, stamped_key}
 use Rattle.statement.proofs.Stamps.{at_stamp}
@@ -155,8 +155,8 @@ returns c =
           ∙ past_stamp call i (check 11 (ltb c.args.count accounts) ∷ settling_checks (basis i)) (c.in_ok-check_stamp.ensures ∙ at_stamp call s stamp.0 stamp.1 i)
           ∙ past_open (not (is_stamped call)) (open_at is (stamped_key call)) i (rest call c.args.count basis) c.in_ok-taken.ensures.answer found;
       intervals =
-          c.in_ok-opened.ensures.writes moved (ap key_of kept.0 ∙ lookup-carries interval_named is _ i c.in_ok-opened.ensures.found)
-          ∙ ap (λ j. put_row interval_named is (Some j)) (moved-is call.days call.minute s stamp.0 stamp.1 opened moved Preliminary kept.0 kept.1 kept.2 kept.3 c.moved-row.ensures.phase c.moved-row.ensures.last)
+          c.in_ok-opened.ensures.writes moved (ap key_of kept.0 ∙ lookup_carries interval_named is _ i c.in_ok-opened.ensures.found)
+          ∙ ap (λ j. put_row interval_named is (Some j)) (moved_is call.days call.minute s stamp.0 stamp.1 opened moved Preliminary kept.0 kept.1 kept.2 kept.3 c.moved-row.ensures.phase c.moved-row.ensures.last)
           ∙ ap (λ o. put_row interval_named is (option_map (moved_to Preliminary call.days call.minute) o)) (sym found);
       figures = λ j e. let same : i ≡ j = some_same i j (sym found ∙ e) in subst (λ k. FiguresAre (basis k) c.in_ok-figures.figures) same c.in_ok-figures.ensures.figures;
       half_hour = c.in_ok-taken.ensures.half_hour;

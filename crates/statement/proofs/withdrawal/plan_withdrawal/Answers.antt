@@ -1,6 +1,6 @@
 use Rattle.std.proofs.Common.{◌≡◌, Some, sym, ap, ◌∙◌, rules}
 use Rattle.std.specs.Option.{option_map}
-use Rattle.register.proofs.Rows.{lookup-carries}
+use Rattle.register.proofs.Rows.{lookup_carries}
 use Rattle.rows.specs.Meaning.{interval_named, interval_rows, interval_says}
 use Rattle.rows.specs.declared.interval.Interval.{Interval}
 use Rattle.rows.specs.declared.phase.Phase.TheVariants.{Reading}
@@ -25,7 +25,7 @@ returns c =
     record {
       answer = c.in_ok-opened.ensures.answer;
       intervals =
-          c.in_ok-opened.ensures.writes moved (ap key_of kept.0 ∙ lookup-carries interval_named is (key_of s.half_hour) i found)
+          c.in_ok-opened.ensures.writes moved (ap key_of kept.0 ∙ lookup_carries interval_named is (key_of s.half_hour) i found)
           ∙ ap (λ j. put_row interval_named is (Some j)) (again_is opened moved kept.0 kept.1 kept.2 kept.3 c.moved-row.ensures.phase c.moved-row.ensures.last)
           ∙ ap (λ o. put_row interval_named is (option_map reading_again o)) (sym found);
     }

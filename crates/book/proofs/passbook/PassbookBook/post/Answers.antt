@@ -4,7 +4,7 @@ use Rattle.units.specs.Ranges.{Account, Around}
 use Rattle.book.specs.Lines.{balance_around, balance_in, free_lines}
 use Rattle.book.specs.Meaning.{balance_limit}
 use Rattle.book.proofs.Posting.{accepts, shown_account}
-use Rattle.book.proofs.Used.{used-filled, tidy-filled, fill-raises, fill-line}
+use Rattle.book.proofs.Used.{used_filled, tidy_filled, fill_raises, fill_line}
 use Rattle.book.proofs.passbook.PassbookBook.post.Goals as goal
 
 pub invariant_of-self : goal.invariant_of-self
@@ -20,7 +20,7 @@ invariant_of-self c =
 pub invariant_of-self-2 : goal.invariant_of-self-2
 invariant_of-self-2 c =
     let s = c.args.self.now in
-    record { counted = used-filled s.lines.now s.used _ s.counted s.tidy (omega arith); tidy = tidy-filled s.lines.now s.used _ s.counted s.tidy (omega arith) }
+    record { counted = used_filled s.lines.now s.used _ s.counted s.tidy (omega arith); tidy = tidy_filled s.lines.now s.used _ s.counted s.tidy (omega arith) }
 
 pub returns : goal.returns
 returns c =
@@ -35,8 +35,8 @@ returns c =
     record {
       meaning = record {
         answer = sym (accepts (balance_in ls) (free_lines ls) a c.args.amount.0 known fine free);
-        after = fill-raises ls s.used _ s.counted s.tidy c.if-self.false c.args.amount.0 sum;
+        after = fill_raises ls s.used _ s.counted s.tidy c.if-self.false c.args.amount.0 sum;
       };
       conditions = λ i h. h;
-      taken = fill-line ls s.used _ s.counted s.tidy c.if-self.false c.args.amount.0 refl sum;
+      taken = fill_line ls s.used _ s.counted s.tidy c.if-self.false c.args.amount.0 refl sum;
     }

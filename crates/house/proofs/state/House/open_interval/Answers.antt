@@ -3,7 +3,7 @@ use Rattle.units.specs.Checks.{Check, first_met}
 use Rattle.calls.specs.declared.IntervalCall.{IntervalCall}
 use Rattle.register.specs.Keys.{Numbers}
 use Rattle.register.specs.Rows.{place, placed}
-use Rattle.register.proofs.Mapped.{place-mapped, placed-mapped}
+use Rattle.register.proofs.Mapped.{place_mapped, placed_mapped}
 use Rattle.rows.specs.Meaning.{IntervalSaid, interval_named, interval_rows, interval_says}
 use Rattle.rows.specs.declared.interval.Interval.{Interval}
 use Rattle.house.specs.Calls.{half_hour_key, interval_given, is_interval}
@@ -62,7 +62,7 @@ last_check : (call : IntervalCall) (latest : Option Numbers) (rows : List (Optio
     → 0 ≡ first_met (check 1 (not (is_interval call)) ∷ []) → 0 ≡ first_met (check 3 (not_after (carried i) latest) ∷ []) → n ≡ first_met (check 10 (not (is_some (place carried rows (carried i)))) ∷ [])
     → n ≡ first_met (check 1 (not (is_interval call)) ∷ three call latest ∷ ten call (interval_rows rows) ∷ [])
 last_check call latest rows i n k one after h =
-    h ∙ ap (λ o. first_met (check 10 (not (is_some o)) ∷ [])) (ap (place carried rows) k ∙ sym (place-mapped carried interval_named interval_says (λ r. refl) rows (key call)))
+    h ∙ ap (λ o. first_met (check 10 (not (is_some o)) ∷ [])) (ap (place carried rows) k ∙ sym (place_mapped carried interval_named interval_says (λ r. refl) rows (key call)))
     ∙ passes (three call latest ∷ []) (ten call (interval_rows rows) ∷ []) (lit< tt, tt) (after ∙ ap (λ q. first_met (check 3 (not_after q latest) ∷ [])) k)
     ∙ passes (check 1 (not (is_interval call)) ∷ []) (three call latest ∷ ten call (interval_rows rows) ∷ []) (lit< tt, tt) one
 
@@ -90,5 +90,5 @@ returns c =
     record {
       answer = last_check call h.latest rows i _ k c.in_ok-interval.ensures.answer c.in_ok-check_after.ensures c.in_ok-put_row.ensures.answer;
       house = ap {B = HouseState} (λ q. record { number = h.number; participants = h.participants; counterparty = h.counterparty; operator = h.operator; latest = Some q; pending = h.pending }) k;
-      intervals = ap interval_rows c.in_ok-put_row.ensures.rows ∙ placed-mapped carried interval_named interval_says (λ r. refl) rows i ∙ ap (placed interval_named (interval_rows rows)) given;
+      intervals = ap interval_rows c.in_ok-put_row.ensures.rows ∙ placed_mapped carried interval_named interval_says (λ r. refl) rows i ∙ ap (placed interval_named (interval_rows rows)) given;
     }
