@@ -11,8 +11,16 @@ net-nasc-requires c =
 pub invariant_of-result : goal.invariant_of-result
 invariant_of-result c =
     let six = six_at c.args.inputs.now c.args.sums.now c.args.k _ _ _ _ c.requires.place (search rules) c.requires.sums c.withdrawn.ensures c.at-lesd.ensures c.requires.share in
-    let b = six_around c.args.inputs.now c.args.k c.requires.place _ _ _ _ _ _ six in
-    (omega (arith, c.requires.place), (b.0, (b.1, (b.2, (b.3, (b.4, (b.5, (net_around c.args.inputs.now c.args.k c.requires.place _ _ _ _ _ _ six _ c.net-nasc.ensures, tt))))))))
+    let b = six_around c.args.inputs.now c.args.k c.requires.place _ _ _ _ _ _ six in record {
+      account_ok = omega (arith, c.requires.place);
+      gesc_ok = b.0;
+      lesd_ok = b.1;
+      bsc_ok = b.2;
+      vcsc_ok = b.3;
+      fee_ok = b.4;
+      heuc_ok = b.5;
+      nasc_ok = net_around c.args.inputs.now c.args.k c.requires.place _ _ _ _ _ _ six _ c.net-nasc.ensures;
+    }
 
 pub returns : goal.returns
 returns c =
