@@ -1,9 +1,9 @@
-use Rattle.std.proofs.Common.{◌≡◌, ◌<◌, false, length, get_or, Some, None, sym, refl, ap, ◌∙◌, arith}
+use Rattle.std.proofs.Common.{◌≡◌, ◌<◌, ◌&&◌, eqb, false, length, get_or, Some, None, sym, refl, ap, ◌∙◌, arith}
+use Rattle.std.proofs.lemmas.Bool.{and_parts, eqb-true}
 use Rattle.std.proofs.lemmas.List.{take_all}
 use Rattle.std.specs.Option.{option_map}
 use Rattle.register.specs.Keys.{of_half_hour}
 use Rattle.register.specs.Rows.{is_at, lookup}
-use Rattle.register.proofs.Keys.{half_hour_tells}
 use Rattle.gather.proofs.Passes.{elsewhere, kept_more, lookup_same, read_as}
 use Rattle.gather.proofs.gather.gather.Goals as goal
 use Rattle.gather.proofs.gather.gather.Goals.{in-Some+then-eq, in-Some+else-eq, in_default}
@@ -21,9 +21,9 @@ loop-slot-preserved g c = λ i l.
     elim c.match-slot.branch [
       | in-Some+then-eq w ↦ (
           let r = w.in-Some.row in
-          let same = w.if-eq.ensures in
-          let d : (g.V.From.Row.carried r).day ≡ h.day = sym w.half_hour.ensures.0 ∙ same.0.0 refl in
-          let t : (g.V.From.Row.carried r).interval ≡ h.interval = sym w.half_hour.ensures.1 ∙ same.1.0 refl in
+          let same = and_parts (eqb w.half_hour.result.day h.day) (eqb w.half_hour.result.interval h.interval) (sym w.if-eq.ensures) in
+          let d : (g.V.From.Row.carried r).day ≡ h.day = sym w.half_hour.ensures.0 ∙ eqb-true _ _ same.0 in
+          let t : (g.V.From.Row.carried r).interval ≡ h.interval = sym w.half_hour.ensures.1 ∙ eqb-true _ _ same.1 in
           let at : g.V.From.Row.carried r ≡ g.V.From.Placed.keyed h.day h.interval w.place.result =
           w.place.ensures ∙ ap (λ x. g.V.From.Placed.keyed x (g.V.From.Row.carried r).interval w.place.result) d ∙ ap (λ x. g.V.From.Placed.keyed h.day x w.place.result) t in
           let item = read_as c.args.rows.now m c.slot-item.result (Some r) w.in-Some.is c.slot-item.is in
@@ -32,7 +32,7 @@ loop-slot-preserved g c = λ i l.
           kept_more g.V.From.Row.carried g.V.View.meaning g.V.View.seen (g.V.From.Placed.keyed h.day h.interval) (g.met.V.From.Placed.apart h.day h.interval)
           c.args.rows.now m r w.view.result w.place.result i (get_or c.loop-slot.held i None) (get_or c.match-slot.held i None) c.loop-slot-test.true item at w.view.ensures was new)
       | in-Some+else-eq w ↦ (
-          let told = half_hour_tells w.half_hour.result.day h.day w.half_hour.result.interval h.interval false w.if-eq.ensures in
+          let told : false ≡ (eqb w.half_hour.result.day h.day && eqb w.half_hour.result.interval h.interval) = w.if-eq.ensures in
           let other : of_half_hour h.day h.interval (g.V.From.Row.carried w.in-Some.row) ≡ false = cc in
           let dated = g.met.V.From.Placed.dated h.day h.interval i in
           let away = elsewhere g.V.From.Row.carried w.in-Some.row k h.day h.interval dated.0 dated.1 other in
