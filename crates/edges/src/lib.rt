@@ -5,7 +5,7 @@
 #[cfg(test)]
 mod gathered;
 #[cfg(test)]
-mod rows;
+mod row_edges;
 
 #[cfg(test)]
 mod tests {
