@@ -79,6 +79,7 @@ impl<'a> Book for Passbook<'a> {
     fn post(&mut self, account: u16, amount: Money) -> Result<(), Refusal>
         ensures meaning { Posted (balance_in self.old.lines.now) (free_lines self.old.lines.now) account amount.0 result (balance_in self.new.lines.now) (free_lines self.new.lines.now) }
         ensures conditions { (i : ℕ) → Unit {0} → Unit {0} }
+        ensures line { MatchResult result (λ _. Filled self.old.lines.now account amount.0 self.new.lines.now) (λ _. self.new.lines.now ≡ self.old.lines.now) }
         ensures taken { MatchResult result (λ _. Filled self.old.lines.now account amount.0 self.new.lines.now) (λ _. self.new ≡ self.old) }
     {
         let balance = self.balance(account)?;

@@ -45,6 +45,7 @@ fn post_turn<B: Book>(book: &mut B, account: u16, amount: Money)
 fn post_each<B: Book>(book: &mut B, amounts: &[Money; ACCOUNTS])
     requires by_index { (a : ℕ) → Account a → Around balance_limit (B.held book.old a +ℤ amount_of amounts.now a) }
     requires amounts_bound { postings (amount_of amounts.now) ≤ B.room book.old }
+    ensures meaning { Settled (B.held book.old) (B.room book.old) (amount_of amounts.now) (B.held book.new) (B.room book.new) }
     ensures turns { InTurn B.held B.room B.takes (amount_of amounts.now) accounts book.old book.new }
     ensures conditions { (i : ℕ) → B.holds i book.old → B.holds i book.new }
 {

@@ -1,8 +1,8 @@
-use Rattle.std.proofs.Common.{◌+◌, sym, ◌∙◌, subst, arith}
+use Rattle.std.proofs.Common.{◌+◌, sym, ◌∙◌, subst, arith, rules}
 use Rattle.std.proofs.lemmas.Int.{ints}
-use Rattle.units.specs.Ranges.{Account}
-use Rattle.book.specs.Statement.{amount_of, Turn}
-use Rattle.book.proofs.Statements.{amount_at, part_room, part_of, no_turn, next_turn}
+use Rattle.units.specs.Ranges.{Account, accounts}
+use Rattle.book.specs.Statement.{InTurn, Turn, amount_of}
+use Rattle.book.proofs.Statements.{amount_at, part_room, part_of, no_turn, next_turn, settled}
 use Rattle.book.proofs.statement.post_each.Goals as goal
 
 pub loop-index-init : goal.loop-index-init
@@ -32,3 +32,10 @@ loop-index-preserved g c =
       next_turn b.held b.room b.takes (amount_of c.args.amounts.now) c.args.book.now i mid new c.loop-index.invariant.0 turn,
       λ k h. c.post_turn.ensures.conditions k (c.loop-index.invariant.1 k h),
     )
+
+pub returns-clause-meaning : goal.returns-clause-meaning
+returns-clause-meaning g c =
+    let b = g.B.Book in
+    let amount = amount_of c.args.amounts.now in
+    let turns : InTurn b.held b.room b.takes amount accounts c.args.book.now c.loop-index.book = search rules in
+    settled b.held b.room b.takes amount c.args.book.now c.loop-index.book turns

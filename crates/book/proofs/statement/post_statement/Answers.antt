@@ -1,5 +1,5 @@
 use Rattle.book.specs.Statement.{amount_of}
-use Rattle.book.proofs.Statements.{none_met, all_fine, settled}
+use Rattle.book.proofs.Statements.{none_met, all_fine}
 use Rattle.book.proofs.statement.post_statement.Goals as goal
 
 pub post_each-requires : goal.post_each-requires
@@ -12,11 +12,10 @@ post_each-requires g c =
 
 pub returns : goal.returns
 returns g c =
-    let b = g.B.Book in
     let told = c.post_each.ensures in
     record {
       answer = c.in_ok-check_statement.ensures;
-      accepted = settled b.held b.room b.takes (amount_of c.args.amounts.now) c.args.book.now c.post_each.new.book told.turns;
+      accepted = told.meaning;
       turns = told.turns;
       refused = tt;
       conditions = told.conditions;
