@@ -1,5 +1,5 @@
 -- What the figures of one half hour are worked from: prices, readings, contracts and vesting rows, by number.
-use Rattle.std.specs.Prelude.{ℕ, Bool, cond, ℤ, pos, Some, None, Option, ◌==◌}
+use Rattle.std.specs.Prelude.{ℕ, cond, ℤ, pos, Some, None, Option, ◌==◌}
 use Rattle.formulas.specs.Sums.{sum}
 
 -- how many facilities a pool has; they are numbered from 1

@@ -4,7 +4,7 @@ use Rattle.units.specs.Division.{whole_cents}
 use Rattle.units.specs.Ranges.{accounts}
 use Rattle.units.specs.Stamps.{window}
 use Rattle.formulas.specs.Adjustment.{Moves, nmea_of}
-use Rattle.formulas.specs.Basis.{Basis, Injection, Withdrawal, Bilateral, Vested}
+use Rattle.formulas.specs.Basis.{Basis, Injection, Withdrawal}
 use Rattle.formulas.specs.Figures.{gesc_of, lesd_of, beq_of, bsc_of, vcrp_of, vcsc_of, fee_of, heua_of, heur_of, heuc_of, nasc_of, is_0}
 use Rattle.formulas.specs.Sums.{sum}
 

@@ -1,5 +1,5 @@
 -- The figures of an account in one half hour, in millicents, under the market's own abbreviations.
-use Rattle.std.specs.Prelude.{ℕ, zero, suc, Bool, true, false, cond, not, ◌&&◌, ◌||◌, List, [], ◌∷◌, ℤ, pos, negsuc, ◌+ℤ◌, ◌-ℤ◌, ◌*ℤ◌, neg_ℤ, is_some, Some, None, Option, ◌==◌}
+use Rattle.std.specs.Prelude.{ℕ, Bool, false, cond, not, ◌&&◌, ◌||◌, List, [], ◌∷◌, ℤ, pos, negsuc, ◌+ℤ◌, ◌-ℤ◌, ◌*ℤ◌, neg_ℤ, is_some, Some, None, Option, ◌==◌}
 use Rattle.units.specs.Checks.{Check}
 use Rattle.units.specs.Division.{floor, nearest}
 use Rattle.units.specs.Ranges.{accounts, inside, uplift_range}

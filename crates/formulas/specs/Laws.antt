@@ -1,5 +1,5 @@
 -- What holds of the figures of every half hour.
-use Rattle.std.specs.Prelude.{◌≡◌, ℕ, ◌<◌, ◌≤◌, ◌⊎◌, ℤ, pos, ◌+ℤ◌, ◌-ℤ◌, ◌*ℤ◌, neg_ℤ, ◌<ℤ◌, IfSome, Some, None, Option}
+use Rattle.std.specs.Prelude.{◌≡◌, ℕ, ◌<◌, ◌≤◌, ◌⊎◌, pos, ◌+ℤ◌, ◌*ℤ◌, neg_ℤ, ◌<ℤ◌, IfSome, Some, None, Option}
 use Rattle.units.specs.Ranges.{accounts}
 pub use Rattle.units.specs.Ranges.{Account}
 use Rattle.formulas.specs.Adjustment.{Moves, nmea_of}

@@ -1,5 +1,5 @@
 -- Digits read one at a time, and clamped to the farthest number at each, write what they write when clamped at the end.
-use Rattle.std.proofs.Common.{◌≡◌, ℕ, suc, ◌+◌, ◌-◌, ◌*◌, ◌<◌, ◌≤◌, min, true, false, cond, List, [], ◌∷◌, length, get_or, take, drop, pos, neg_ℤ, Some, None, Option, sym, refl, ap, ◌∙◌, not-suc-le-zero, add-one, arith, drop_of_length-le, take_all, drop-cons}
+use Rattle.std.proofs.Common.{◌≡◌, ℕ, ◌+◌, ◌-◌, ◌*◌, ◌<◌, ◌≤◌, min, true, false, cond, List, [], ◌∷◌, length, get_or, take, drop, pos, neg_ℤ, Some, None, Option, sym, refl, ap, ◌∙◌, not-suc-le-zero, add-one, arith, drop_of_length-le, take_all, drop-cons}
 use Rattle.std.proofs.lemmas.Bool.Decides.{nat_tests}
 use Rattle.lines.specs.Numerals.{digits_after, far, clamped, is_digit, whole_number, written_number}
 use Rattle.std.specs.Option.{option_map}

@@ -1,5 +1,5 @@
 -- What the code's records say, as the figures' definitions read them.
-use Rattle.std.specs.Prelude.{ℕ, zero, suc, List, ℤ, pos, Some, None, Option, slice_index_or}
+use Rattle.std.specs.Prelude.{ℕ, zero, suc, List, None, Option, slice_index_or}
 use Rattle.std.specs.Option.{option_map}
 use Rattle.formulas.specs.Basis.{Basis, Injection, Withdrawal, Bilateral, Vested}
 use Rattle.records.specs.declared.inputs.Inputs.{Inputs}

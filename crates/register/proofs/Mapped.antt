@@ -1,6 +1,6 @@
 -- A register whose rows are read another way, each row by what it says: the same keys' rows stand at the same places.
 use Rattle.std.proofs.Common.{◌≡◌, ℕ, zero, suc, Bool, true, false, cond, List, [], ◌∷◌, map, set, Some, None, Option, sym, refl, ap, ◌∙◌}
-use Rattle.std.specs.Option.{option_map, option_or}
+use Rattle.std.specs.Option.{option_map}
 use Rattle.register.specs.Keys.{Numbers, same_key}
 use Rattle.register.specs.Rows.{first, is_at, is_vacant, lookup, place, placed, put_at}
 

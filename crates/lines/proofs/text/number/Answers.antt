@@ -1,7 +1,7 @@
-use Rattle.std.proofs.Common.{◌≡◌, ℕ, ◌-◌, ◌<◌, ◌≤◌, length, get_or, take, drop, ℤ, pos, ◌-ℤ◌, neg_ℤ, Some, None, sym, ap, ◌∙◌, arith, w64, to_z, of_z}
+use Rattle.std.proofs.Common.{◌≡◌, ℕ, ◌-◌, ◌≤◌, length, get_or, take, drop, pos, ◌-ℤ◌, neg_ℤ, Some, sym, ap, ◌∙◌, arith, w64, to_z, of_z}
 use Rattle.std.proofs.lemmas.Int.{ints}
 use Rattle.std.specs.Option.{option_map}
-use Rattle.lines.specs.Numerals.{far, whole_number}
+use Rattle.lines.specs.Numerals.{far}
 use Rattle.lines.proofs.Digits.{after_minus, whole_small}
 use Rattle.lines.proofs.text.number.Goals as goal
 
