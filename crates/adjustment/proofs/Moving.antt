@@ -5,10 +5,9 @@ use Rattle.std.specs.Option.{option_map}
 use Rattle.std.proofs.lemmas.List.{get_or_default}
 use Rattle.std.proofs.lemmas.Int.{ints}
 use Rattle.std.proofs.lemmas.Bool.{cases_eq, eq-eqb, ne_eqb, cond-true, cond-false}
-use Rattle.units.specs.Ranges.{Account, Around, accounts}
+use Rattle.units.specs.Ranges.{Around, accounts}
 use Rattle.formulas.specs.Adjustment.{Moves, nmea_of, rate_of}
 use Rattle.formulas.specs.Basis.{Injection, Withdrawal, facilities, of_account, of_load, over}
-use Rattle.formulas.specs.Sums.{sum}
 use Rattle.records.specs.Meaning.{numbered}
 use Rattle.records.specs.Moved.{injection_moved, moves_of, withdrawal_moved}
 use Rattle.records.specs.declared.moves.Differences.{Differences}

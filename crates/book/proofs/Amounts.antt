@@ -3,7 +3,7 @@ use Rattle.std.proofs.Common.{◌≡◌, ℕ, zero, suc, ◌+◌, ◌≤◌, Boo
 use Rattle.units.specs.Checks.{first_met}
 use Rattle.units.specs.Ranges.{Account, accounts}
 use Rattle.book.specs.Meaning.{is_balance}
-use Rattle.book.specs.Statement.{InTurn, Settled, Turn, beyond, count, is_posted, is_zero, postings, statement_checks}
+use Rattle.book.specs.Statement.{InTurn, Settled, Turn, beyond, count, is_zero, postings, statement_checks}
 
 count_same : (n : ℕ) (t u : ℕ → Bool) → ((a : ℕ) → 1 ≤ a → a ≤ n → t a ≡ u a) → count n t ≡ count n u
 unfolding count

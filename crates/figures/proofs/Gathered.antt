@@ -1,5 +1,5 @@
 -- The totals of every account's facilities, one facility after another, and what the inputs' own ranges say of them.
-use Rattle.std.proofs.Common.{◌≡◌, ℕ, zero, suc, ◌+◌, ◌-◌, ◌*◌, ◌<◌, ◌≤◌, Bool, true, false, cond, eqb, ◌⊎◌, List, length, get_or, set, ℤ, pos, negsuc, ◌+ℤ◌, ◌*ℤ◌, IfSome, Some, None, Option, sym, refl, ap, ◌∙◌, subst, inl, inr, arith, get_or-set_other, get_or-set_same}
+use Rattle.std.proofs.Common.{◌≡◌, ℕ, suc, ◌+◌, ◌-◌, ◌<◌, ◌≤◌, cond, eqb, ◌⊎◌, List, length, get_or, set, ℤ, pos, negsuc, ◌+ℤ◌, ◌*ℤ◌, IfSome, Some, None, Option, sym, refl, ap, ◌∙◌, subst, inl, inr, arith, get_or-set_other, get_or-set_same}
 use lib.IntN.{+ℤ_idr}
 use Rattle.std.specs.Option.{option_map}
 use Rattle.std.proofs.lemmas.Int.{ints}
@@ -9,11 +9,9 @@ use Rattle.units.specs.Division.{nearest}
 use Rattle.formulas.specs.Basis.{Basis, Injection, facilities, of_account, of_load, over}
 use Rattle.formulas.specs.Figures.{ieq_of, gesc_of, vcrp_of, weq_of, wfq_of, at_least_0, whole}
 use Rattle.figures.specs.Meaning.{basis_of, injection_of, withdrawal_of, bilateral_of, vested_of, numbered, tranche, tranches_of}
-use Rattle.formulas.specs.Sums.{sum}
 use Rattle.figures.specs.Working.{AllTotalled, Grown, Priced, Roomy, Totalled, nothing_injected, price_from, upto}
 use Rattle.figures.specs.declared.injected.Injected.{Injected}
 use Rattle.records.specs.declared.inputs.Inputs.{Inputs}
-use Rattle.records.specs.declared.inputs.Tranches.{Tranches}
 use Rattle.records.specs.declared.entries.Contract.{Contract}
 use Rattle.records.specs.declared.entries.Facility.{Facility}
 use Rattle.records.specs.declared.entries.Load.{Load}

@@ -1,5 +1,5 @@
 -- The lines of a statement: each figure within its bound, and the running load that shares out the uplift.
-use Rattle.std.proofs.Common.{◌≡◌, ℕ, suc, ◌+◌, ◌<◌, ◌≤◌, ◌⊎◌, List, length, get_or, set, ℤ, pos, ◌+ℤ◌, ◌-ℤ◌, ◌*ℤ◌, None, Option, sym, ap, ◌∙◌, subst, inl, inr, add-one, arith, get_or-set_other, get_or-set_same, w64, SFits, to_z, of_z}
+use Rattle.std.proofs.Common.{◌≡◌, ℕ, suc, ◌+◌, ◌<◌, ◌⊎◌, List, length, get_or, set, ℤ, pos, ◌+ℤ◌, ◌-ℤ◌, ◌*ℤ◌, None, Option, sym, ap, ◌∙◌, subst, inl, inr, add-one, arith, get_or-set_other, get_or-set_same, w64, SFits, to_z, of_z}
 use mir.Syntax.{w128}
 use Rattle.std.specs.Option.{option_map}
 use Rattle.std.proofs.lemmas.List.{get_or_default}

@@ -1,5 +1,5 @@
 -- What a settled half hour holds, as an equation for each figure.
-use Rattle.std.specs.Prelude.{◌≡◌, ℕ, suc, ◌<◌, List, ℤ, pos, slice_index_or}
+use Rattle.std.specs.Prelude.{◌≡◌, ℕ, suc, ◌<◌, List, pos, slice_index_or}
 use Rattle.units.specs.Ranges.{Account, accounts}
 use Rattle.formulas.specs.Basis.{Basis}
 use Rattle.formulas.specs.Figures.{gesc_of, lesd_of, bsc_of, vcsc_of, fee_of, heua_of, heuc_of, heur_of, nasc_of, total_load}

@@ -123,12 +123,12 @@ pub fn adjust<B: Book>(
     book: &mut B,
     call: &StampedCall,
 ) -> Result<(), Refusal>
-    ensures answer { answer_number result ≡ first_met (adjustment_checks step call.now (house_says house.old) (interval_rows intervals.old) (facility_rows facilities.now) (load_rows loads.now) (held book.old) (room book.old)) }
+    ensures answer { answer_number result ≡ first_met (adjustment_checks step call.now (house_says house.old) (interval_rows intervals.old) (facility_rows facilities.now) (load_rows loads.now) (B.held book.old) (B.room book.old)) }
     ensures intervals { MatchResult result (λ _. interval_rows intervals.new ≡ adjusted_intervals step call.now (interval_rows intervals.old)) (λ _. intervals.new ≡ intervals.old) }
     ensures house { MatchResult result (λ _. (i : IntervalSaid) → open_at (interval_rows intervals.old) (stamped_key call.now) ≡ Some i → house_says house.new ≡ adjusted_house step (house_says house.old) i (facility_rows facilities.now) (load_rows loads.now)) (λ _. house.new ≡ house.old) }
-    ensures book { MatchResult result (λ _. (i : IntervalSaid) → open_at (interval_rows intervals.old) (stamped_key call.now) ≡ Some i → Settled (held book.old) (room book.old) (adjusts step (house_says house.old) i (facility_rows facilities.now) (load_rows loads.now)) (held book.new) (room book.new)) (λ _. book.new ≡ book.old) }
-    ensures turns { OnOk result ((i : IntervalSaid) → open_at (interval_rows intervals.old) (stamped_key call.now) ≡ Some i → InTurn held room takes (adjusts step (house_says house.old) i (facility_rows facilities.now) (load_rows loads.now)) accounts book.old book.new) }
-    ensures conditions { (k : ℕ) → holds k book.old → holds k book.new }
+    ensures book { MatchResult result (λ _. (i : IntervalSaid) → open_at (interval_rows intervals.old) (stamped_key call.now) ≡ Some i → Settled (B.held book.old) (B.room book.old) (adjusts step (house_says house.old) i (facility_rows facilities.now) (load_rows loads.now)) (B.held book.new) (B.room book.new)) (λ _. book.new ≡ book.old) }
+    ensures turns { OnOk result ((i : IntervalSaid) → open_at (interval_rows intervals.old) (stamped_key call.now) ≡ Some i → InTurn B.held B.room B.takes (adjusts step (house_says house.old) i (facility_rows facilities.now) (load_rows loads.now)) accounts book.old book.new) }
+    ensures conditions { (k : ℕ) → B.holds k book.old → B.holds k book.new }
     ensures joined { (i : IntervalSaid) → TwoAreOne (house_says house.old).operator i (facility_rows facilities.now) (load_rows loads.now) }
 {
     let plan = plan_adjustment(step, house, intervals, facilities, loads, call)?;

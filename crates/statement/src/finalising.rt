@@ -104,13 +104,13 @@ pub fn finalise<B: Book>(
     statement: Statement,
     call: &StampCall,
 ) -> Result<(), Refused>
-    ensures answer { final_number result ≡ first_met (final_checks statement call.now.days call.now.minute (house_says house.old).number (interval_rows intervals.old) (length lines.old) (λ i. basis_in (house_says house.old) i (facility_rows facilities.now) (load_rows loads.now) (contract_rows contracts.now) (vesting_rows vestings.now)) (held book.old) (room book.old)) }
+    ensures answer { final_number result ≡ first_met (final_checks statement call.now.days call.now.minute (house_says house.old).number (interval_rows intervals.old) (length lines.old) (λ i. basis_in (house_says house.old) i (facility_rows facilities.now) (load_rows loads.now) (contract_rows contracts.now) (vesting_rows vestings.now)) (B.held book.old) (B.room book.old)) }
     ensures intervals { MatchResult result (λ _. interval_rows intervals.new ≡ final_intervals statement call.now.days call.now.minute (λ i. basis_in (house_says house.old) i (facility_rows facilities.now) (load_rows loads.now) (contract_rows contracts.now) (vesting_rows vestings.now)) (interval_rows intervals.old)) (λ _. intervals.new ≡ intervals.old) }
     ensures house { MatchResult result (λ _. house_says house.new ≡ with_pending (pos 0) (house_says house.old)) (λ _. house.new ≡ house.old) }
     ensures lines { MatchResult result (λ _. LinesWritten (statement_key statement) (interval_rows intervals.old) (λ i. basis_in (house_says house.old) i (facility_rows facilities.now) (load_rows loads.now) (contract_rows contracts.now) (vesting_rows vestings.now)) lines.old lines.new) (λ _. lines.new ≡ lines.old) }
-    ensures book { MatchResult result (λ _. (i : IntervalSaid) → open_at (interval_rows intervals.old) (statement_key statement) ≡ Some i → Settled (held book.old) (room book.old) (nasc_of (basis_in (house_says house.old) i (facility_rows facilities.now) (load_rows loads.now) (contract_rows contracts.now) (vesting_rows vestings.now))) (held book.new) (room book.new)) (λ _. book.new ≡ book.old) }
-    ensures turns { OnOk result ((i : IntervalSaid) → open_at (interval_rows intervals.old) (statement_key statement) ≡ Some i → InTurn held room takes (nasc_of (basis_in (house_says house.old) i (facility_rows facilities.now) (load_rows loads.now) (contract_rows contracts.now) (vesting_rows vestings.now))) accounts book.old book.new) }
-    ensures conditions { (k : ℕ) → holds k book.old → holds k book.new }
+    ensures book { MatchResult result (λ _. (i : IntervalSaid) → open_at (interval_rows intervals.old) (statement_key statement) ≡ Some i → Settled (B.held book.old) (B.room book.old) (nasc_of (basis_in (house_says house.old) i (facility_rows facilities.now) (load_rows loads.now) (contract_rows contracts.now) (vesting_rows vestings.now))) (B.held book.new) (B.room book.new)) (λ _. book.new ≡ book.old) }
+    ensures turns { OnOk result ((i : IntervalSaid) → open_at (interval_rows intervals.old) (statement_key statement) ≡ Some i → InTurn B.held B.room B.takes (nasc_of (basis_in (house_says house.old) i (facility_rows facilities.now) (load_rows loads.now) (contract_rows contracts.now) (vesting_rows vestings.now))) accounts book.old book.new) }
+    ensures conditions { (k : ℕ) → B.holds k book.old → B.holds k book.new }
     ensures statement { IfErr result (λ e. e.statement ≡ statement) }
 {
     let count = lines.len();

@@ -1,4 +1,3 @@
-use Rattle.std.proofs.Common.{◌-◌}
 use Rattle.adjustment.proofs.Moving.{added}
 use Rattle.adjustment.proofs.adjust.add_facility.Goals as goal
 

@@ -4,7 +4,6 @@ use Rattle.figures.proofs.Balanced.{Filled}
 use Rattle.formulas.specs.Adjustment.{nmea_of}
 use Rattle.formulas.specs.Sums.{sum}
 use Rattle.records.specs.Moved.{moves_of}
-use Rattle.adjustment.specs.Moved.{AllTotalled}
 use Rattle.adjustment.proofs.adjust.adjustments.Given as goal
 
 abbrev pub invariant-loop-k : goal.invariant-loop-k

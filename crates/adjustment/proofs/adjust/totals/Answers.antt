@@ -1,4 +1,4 @@
-use Rattle.std.proofs.Common.{◌≡◌, suc, ◌<◌, length, get_or, replicate, None, subst, arith, rules}
+use Rattle.std.proofs.Common.{◌≡◌, suc, ◌<◌, length, get_or, None, subst, arith, rules}
 use Rattle.std.proofs.lemmas.List.{get_or-replicate, get_or_default}
 use Rattle.records.specs.Moved.{moves_of}
 use Rattle.adjustment.specs.Moved.{Totalled, nothing_moved}

@@ -1,8 +1,7 @@
-use Rattle.std.proofs.Common.{◌≡◌, ℕ, zero, suc, ◌<◌, ◌≤◌, length, get_or, replicate, ℤ, pos, ◌+ℤ◌, None, sym, ap, ◌∙◌, arith, rules}
+use Rattle.std.proofs.Common.{◌≡◌, ◌<◌, length, ◌+ℤ◌, None, sym, ap, ◌∙◌, arith, rules}
 use Rattle.std.specs.Option.{option_map}
-use Rattle.std.proofs.lemmas.List.{get_or_default, get_or-replicate}
+use Rattle.std.proofs.lemmas.List.{get_or_default}
 use Rattle.std.proofs.lemmas.Int.{ints}
-use Rattle.units.specs.Ranges.{Account, Around}
 use Rattle.formulas.specs.Basis.{contracts}
 use Rattle.formulas.specs.Figures.{bsc_of, from_contract}
 use Rattle.figures.specs.Meaning.{amount_at, basis_of, bilateral_of}

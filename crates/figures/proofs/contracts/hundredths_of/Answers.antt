@@ -1,8 +1,8 @@
-use Rattle.std.proofs.Common.{◌≡◌, ℕ, ◌≤◌, ℤ, pos, ◌*ℤ◌, ap, ◌∙◌, arith, w64, SFits, to_z, of_z, rules}
+use Rattle.std.proofs.Common.{◌≡◌, ℕ, ◌≤◌, ℤ, pos, ◌*ℤ◌, ap, ◌∙◌, arith, w64, SFits, to_z, of_z}
 use mir.Syntax.{w128}
 use Rattle.std.proofs.lemmas.Int.{ints, to_z-of_z, to_z_pos}
 use Rattle.units.specs.Division.{floor}
-use Rattle.units.specs.Ranges.{Around, Within}
+use Rattle.units.specs.Ranges.{Within}
 use Rattle.formulas.specs.Figures.{part}
 use Rattle.formulas.proofs.Bounds.{part_up_to, product_up_to}
 use Rattle.figures.proofs.contracts.hundredths_of.Goals as goal

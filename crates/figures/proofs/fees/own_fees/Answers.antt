@@ -1,8 +1,8 @@
-use Rattle.std.proofs.Common.{◌≡◌, ℕ, suc, ◌<◌, List, length, get_or, ℤ, pos, ◌+ℤ◌, ◌*ℤ◌, None, Option, refl, ap, ◌∙◌, arith, length-set, w64, SFits, to_z, of_z, rules}
+use Rattle.std.proofs.Common.{◌≡◌, ℕ, suc, ◌<◌, List, length, get_or, ℤ, ◌+ℤ◌, ◌*ℤ◌, None, Option, refl, ap, ◌∙◌, arith, length-set, w64, SFits, to_z, of_z, rules}
 use Rattle.std.specs.Option.{option_map}
 use Rattle.std.proofs.lemmas.List.{get_or_default}
-use Rattle.std.proofs.lemmas.Int.{ints, to_z-of_z}
-use Rattle.units.specs.Ranges.{Around, accounts}
+use Rattle.std.proofs.lemmas.Int.{ints}
+use Rattle.units.specs.Ranges.{accounts}
 use Rattle.formulas.specs.Basis.{of_load}
 use Rattle.formulas.specs.Figures.{ieq_of, wfq_of, own_fee_of}
 use Rattle.figures.specs.Meaning.{basis_of, withdrawal_of}

@@ -1,4 +1,3 @@
-use Rattle.std.proofs.Common.{◌-◌}
 use Rattle.figures.proofs.Gathered.{added}
 use Rattle.figures.proofs.injected.add_facility.Goals as goal
 

@@ -1,4 +1,4 @@
-use Rattle.std.proofs.Common.{◌≡◌, ℕ, cond, eqb, ℤ, pos, ◌+ℤ◌, ◌-ℤ◌, ◌*ℤ◌, sym, ap, ◌∙◌, arith, SFits, to_z, of_z, rules}
+use Rattle.std.proofs.Common.{◌≡◌, cond, eqb, ℤ, pos, ◌+ℤ◌, ◌-ℤ◌, ◌*ℤ◌, sym, ap, ◌∙◌, arith, SFits, to_z, of_z}
 use mir.Syntax.{w128}
 use Rattle.std.proofs.lemmas.Int.{ints}
 use Rattle.units.specs.Division.{floor}
@@ -7,7 +7,7 @@ use Rattle.formulas.specs.Figures.{gesc_of, heua_of, heur_of, lesd_of, weq_of, t
 use Rattle.figures.specs.Meaning.{basis_of}
 use Rattle.formulas.specs.Sums.{sum}
 use Rattle.records.specs.declared.inputs.Inputs.{Inputs}
-use Rattle.formulas.proofs.Bounds.{gesc_around, heua_around, product_around, total_load_is, total_load_up_to}
+use Rattle.formulas.proofs.Bounds.{gesc_around, product_around, total_load_is, total_load_up_to}
 use Rattle.figures.proofs.Gathered.{inputs_in_ranges}
 use Rattle.formulas.proofs.Sums.{sum_scale, sum_within}
 use Rattle.figures.proofs.uplift.uplift_of.Goals as goal

@@ -1,10 +1,8 @@
-use Rattle.std.proofs.Common.{◌≡◌, ℕ, suc, ◌<◌, List, length, get_or, ℤ, pos, ◌+ℤ◌, refl, ap, ◌∙◌, arith, length-set, rules}
+use Rattle.std.proofs.Common.{◌≡◌, ℕ, suc, ◌<◌, length, get_or, ℤ, ◌+ℤ◌, refl, ap, ◌∙◌, arith, length-set, rules}
 use Rattle.std.specs.Option.{option_map}
 use Rattle.std.proofs.lemmas.List.{get_or_default}
-use Rattle.units.specs.Ranges.{Around, accounts}
 use Rattle.formulas.specs.Figures.{vcrp_of, from_vesting, own_vcsc_of}
 use Rattle.figures.specs.Meaning.{basis_of, no_tranches, tranche, vested_of}
-use Rattle.figures.specs.Working.{nothing_injected}
 use Rattle.records.specs.declared.inputs.Inputs.{Inputs}
 use Rattle.records.specs.declared.inputs.Tranches.{Tranches}
 use Rattle.figures.proofs.Balanced.{filled_more}

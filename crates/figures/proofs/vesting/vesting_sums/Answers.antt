@@ -1,4 +1,4 @@
-use Rattle.std.proofs.Common.{◌≡◌, ◌∙◌, arith, rules}
+use Rattle.std.proofs.Common.{◌∙◌, arith}
 use Rattle.std.proofs.lemmas.Int.{ints}
 use Rattle.formulas.specs.Figures.{vcsc_of, own_vcsc_of}
 use Rattle.figures.specs.Meaning.{basis_of}

@@ -1,4 +1,4 @@
-use Rattle.std.proofs.Common.{◌≡◌, add-one, arith, rules}
+use Rattle.std.proofs.Common.{add-one, arith, rules}
 use Rattle.figures.proofs.Written.{net_around, net_is, six_around, six_at}
 use Rattle.figures.proofs.worked.line_of.Goals as goal
 

@@ -1,9 +1,8 @@
-use Rattle.std.proofs.Common.{◌≡◌, suc, ◌<◌, length, sym, refl, ap, ◌∙◌, arith, length-set, SFits, rules}
+use Rattle.std.proofs.Common.{◌<◌, length, sym, refl, ap, ◌∙◌, arith, length-set, SFits, rules}
 use mir.Syntax.{w128}
-use Rattle.std.proofs.lemmas.Int.{ints, to_z-of_z}
+use Rattle.std.proofs.lemmas.Int.{to_z-of_z}
 use Rattle.formulas.specs.Figures.{heua_of, weq_of, borne, total_load}
 use Rattle.figures.specs.Meaning.{basis_of}
-use Rattle.formulas.specs.Sums.{sum}
 use Rattle.formulas.proofs.Shares.{borne_none}
 use Rattle.formulas.proofs.Sums.{sum_none}
 use Rattle.figures.proofs.Written.{drawn_at, lines_more, load_more, share_more}
