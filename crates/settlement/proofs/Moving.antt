@@ -1,7 +1,6 @@
 -- What is gathered of a correction is what the registers' rows say of it.
-use Rattle.std.proofs.Common.{◌≡◌, ℕ, List, map, ℤ, Option, sym, refl, ap, ◌∙◌}
+use Rattle.std.proofs.Common.{◌≡◌, ℕ, List, ℤ, Option, refl}
 use mathlib.Core.Path.{fun_ext}
-use Rattle.std.specs.Option.{option_map}
 use Rattle.formulas.specs.Adjustment.{Moves}
 use Rattle.formulas.specs.Basis.{Injection, Withdrawal}
 use Rattle.register.specs.Keys.{numbered_key}

@@ -1,5 +1,5 @@
 -- The first and the second adjustment: the checks in the order of their numbers, and what an accepted one changes.
-use Rattle.std.specs.Prelude.{◌≡◌, ℕ, Bool, not, ◌&&◌, List, [], ◌∷◌, ◌++◌, ℤ, ◌+ℤ◌, Some, Option, nat_le, unsigned_abs}
+use Rattle.std.specs.Prelude.{◌≡◌, ℕ, not, List, [], ◌∷◌, ◌++◌, ℤ, ◌+ℤ◌, Some, Option, nat_le, unsigned_abs}
 use Rattle.std.specs.Option.{option_map}
 use Rattle.units.specs.Checks.{Check}
 use Rattle.units.specs.Ranges.{Account, accounts, balance_range, inside}

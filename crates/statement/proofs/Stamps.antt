@@ -1,6 +1,6 @@
 -- The checks of a statement's stamp as it was handed in.
-use Rattle.std.proofs.Common.{◌≡◌, Bool, not, eqb, List, [], ◌∷◌, nat_abs, ap, ◌∙◌}
-use Rattle.units.specs.Checks.{Check, first_met}
+use Rattle.std.proofs.Common.{◌≡◌, not, eqb, [], ◌∷◌, nat_abs, ap, ◌∙◌}
+use Rattle.units.specs.Checks.{first_met}
 use Rattle.units.specs.Stamps.{earlier, window}
 use Rattle.units.specs.declared.stamp.Stamp.{Stamp}
 use Rattle.calls.specs.declared.StampedCall.{StampedCall}

@@ -1,5 +1,5 @@
 -- Finals: the checks in the order of their numbers, and what an accepted one changes.
-use Rattle.std.specs.Prelude.{ℕ, Bool, not, List, [], ◌∷◌, ◌++◌, ℤ, Some, Ok, Err, Option, Result, nat_le, nat_lt, unsigned_abs}
+use Rattle.std.specs.Prelude.{ℕ, not, List, [], ◌∷◌, ◌++◌, ℤ, Some, Ok, Err, Option, Result, nat_le, nat_lt, unsigned_abs}
 use Rattle.std.specs.Option.{option_map}
 use Rattle.units.specs.Checks.{Check}
 use Rattle.units.specs.Ranges.{accounts}

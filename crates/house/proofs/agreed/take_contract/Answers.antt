@@ -1,4 +1,4 @@
-use Rattle.std.proofs.Common.{◌≡◌, ℕ, not, eqb, List, [], ◌∷◌, nat_abs, is_some, Option, sym, refl, ap, ◌∙◌, rules}
+use Rattle.std.proofs.Common.{◌≡◌, not, eqb, List, [], ◌∷◌, nat_abs, is_some, Option, refl, ap, ◌∙◌, rules}
 use Rattle.units.specs.Checks.{Check, first_met}
 use Rattle.calls.specs.declared.ContractCall.{ContractCall}
 use Rattle.register.specs.Keys.{Numbers, interval_key}

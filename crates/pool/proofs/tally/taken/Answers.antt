@@ -1,4 +1,4 @@
-use Rattle.std.proofs.Common.{◌≡◌, ◌+◌, cond, is_some, sym, ap, ◌∙◌, arith}
+use Rattle.std.proofs.Common.{◌≡◌, ◌+◌, cond, is_some, sym, ◌∙◌, arith}
 use Rattle.pool.proofs.Places.{all_counted, one_counted}
 use Rattle.pool.proofs.tally.taken.Goals as goal
 use Rattle.pool.proofs.tally.taken.Goals.{then-is_some, else-is_some}

@@ -1,6 +1,6 @@
-use Rattle.std.proofs.Common.{◌≡◌, ℕ, ◌≤◌, Bool, not, List, [], ◌∷◌, ◌++◌, ℤ, ◌+ℤ◌, Some, None, Option, sym, refl, ap, ◌∙◌, subst, arith, lit<, rules}
+use Rattle.std.proofs.Common.{◌≡◌, Bool, not, List, [], ◌∷◌, ◌++◌, ◌+ℤ◌, Some, None, Option, sym, ap, ◌∙◌, subst, arith, lit<, rules}
 use Rattle.units.specs.Checks.{Check, first_met}
-use Rattle.units.specs.Ranges.{Account, accounts, balance_range, inside}
+use Rattle.units.specs.Ranges.{accounts, balance_range, inside}
 use Rattle.units.specs.Refusals.{refusal_number}
 use Rattle.units.specs.declared.refusal.Refusal.{Refusal}
 use Rattle.book.specs.Statement.{InTurn, Settled, amount_of, statement_checks}

@@ -1,4 +1,4 @@
-use Rattle.std.proofs.Common.{◌≡◌, ℕ, not, eqb, leb, List, [], ◌∷◌, ◌++◌, ℤ, ◌+ℤ◌, nat_abs, Some, Option, sym, refl, ap, ◌∙◌, lit<, rules}
+use Rattle.std.proofs.Common.{◌≡◌, not, eqb, leb, List, [], ◌∷◌, ◌++◌, ◌+ℤ◌, nat_abs, Some, Option, sym, ap, ◌∙◌, lit<, rules}
 use Rattle.std.specs.Option.{option_map}
 use Rattle.units.specs.Checks.{Check, first_met}
 use Rattle.units.specs.Ranges.{accounts, balance_range, inside}

@@ -5,7 +5,6 @@ use Rattle.book.specs.Statement.{amount_of}
 use Rattle.figures.specs.Meaning.{amount_at}
 use Rattle.formulas.specs.Adjustment.{nmea_of}
 use Rattle.formulas.specs.Sums.{sum}
-use Rattle.house.specs.State.{house_says}
 use Rattle.rows.specs.Meaning.{facility_rows, interval_says, load_rows}
 use Rattle.settlement.specs.Moves.{moves_in}
 use Rattle.settlement.specs.Steps.{after_value, before_value}

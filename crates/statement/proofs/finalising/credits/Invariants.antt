@@ -1,4 +1,4 @@
-use Rattle.std.proofs.Common.{◌≡◌, ℕ, suc, ◌≤◌, length}
+use Rattle.std.proofs.Common.{◌≡◌, length}
 use Rattle.units.specs.Ranges.{accounts}
 use Rattle.figures.proofs.Balanced.{Filled}
 use Rattle.figures.specs.Settled.{LinesAre}

@@ -1,12 +1,11 @@
-use Rattle.std.proofs.Common.{◌≡◌, ℕ, suc, ◌<◌, Bool, not, ltb, List, [], ◌∷◌, ◌++◌, length, get_or, ℤ, Some, None, Option, sym, refl, ap, ◌∙◌, subst, arith, lit<, rules}
+use Rattle.std.proofs.Common.{◌≡◌, ℕ, Bool, not, ltb, List, ◌∷◌, ◌++◌, length, ℤ, Some, None, Option, sym, ap, ◌∙◌, subst, arith, lit<, rules}
 use Rattle.units.specs.Checks.{Check, first_met}
 use Rattle.units.specs.Ranges.{accounts}
 use Rattle.units.specs.Refusals.{refusal_number}
 use Rattle.units.specs.declared.refusal.Refusal.{Refusal}
 use Rattle.book.specs.Statement.{InTurn, Settled, amount_of, statement_checks}
 use Rattle.book.proofs.Amounts.{checks_same, settled_same, turns_same}
-use Rattle.figures.specs.Settled.{LineIs, LinesAre}
-use Rattle.figures.specs.declared.line.Line.{Line}
+use Rattle.figures.specs.Settled.{LinesAre}
 use Rattle.formulas.specs.Basis.{Basis}
 use Rattle.formulas.specs.Figures.{nasc_of, settling_checks}
 use Rattle.rows.specs.Meaning.{IntervalSaid, contract_rows, facility_rows, interval_rows, load_rows, vesting_rows}
