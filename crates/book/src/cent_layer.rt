@@ -89,6 +89,7 @@ impl<B: Book> Book for CentLayer<B> {
     fn post(&mut self, account: u16, amount: Money) -> Result<(), Refusal>
         ensures meaning { Posted (at_account self.old.exact.cells) (B.Book.room self.old.below) account amount.0 result (at_account self.new.exact.cells) (B.Book.room self.new.below) }
         ensures conditions { (i : ℕ) → own_first (InCents (B.Book.held self.old.below) (at_account self.old.exact.cells)) (λ j. B.Book.holds j self.old.below) i → own_first (InCents (B.Book.held self.new.below) (at_account self.new.exact.cells)) (λ j. B.Book.holds j self.new.below) i }
+        ensures paid { MatchResult result (λ _. Paid B.Book.held account (at_account self.new.exact.cells account) self.old.below self.new.below) (λ _. self.new ≡ self.old) }
         ensures taken { MatchResult result (λ _. Paid B.Book.held account (at_account self.new.exact.cells account) self.old.below self.new.below) (λ _. self.new ≡ self.old) }
     {
         let index = account_index(account)?;

@@ -31,8 +31,8 @@ pub fn check_statement<B: Book>(book: &B, amounts: &[Money; ACCOUNTS]) -> Result
 // One account's turn: its amount is posted unless it is zero.
 fn post_turn<B: Book>(book: &mut B, account: u16, amount: Money)
     requires account { Account account }
-    requires around { Around balance_limit (B.held book.old account +ℤ amount.0) }
-    requires book_nonzero { (amount.0 ≢ pos 0) → 0 < B.room book.old }
+    requires balance { Around balance_limit (B.held book.old account +ℤ amount.0) }
+    requires places { (amount.0 ≢ pos 0) → 0 < B.room book.old }
     ensures turn { Turn B.held B.room B.takes account amount.0 book.old book.new }
     ensures conditions { (i : ℕ) → B.holds i book.old → B.holds i book.new }
 {
@@ -43,8 +43,8 @@ fn post_turn<B: Book>(book: &mut B, account: u16, amount: Money)
 
 // Posts one amount to each account, by rising account, with no posting for a zero.
 fn post_each<B: Book>(book: &mut B, amounts: &[Money; ACCOUNTS])
-    requires by_index { (a : ℕ) → Account a → Around balance_limit (B.held book.old a +ℤ amount_of amounts.now a) }
-    requires amounts_bound { postings (amount_of amounts.now) ≤ B.room book.old }
+    requires balances { (a : ℕ) → Account a → Around balance_limit (B.held book.old a +ℤ amount_of amounts.now a) }
+    requires places { postings (amount_of amounts.now) ≤ B.room book.old }
     ensures meaning { Settled (B.held book.old) (B.room book.old) (amount_of amounts.now) (B.held book.new) (B.room book.new) }
     ensures turns { InTurn B.held B.room B.takes (amount_of amounts.now) accounts book.old book.new }
     ensures conditions { (i : ℕ) → B.holds i book.old → B.holds i book.new }

@@ -1,5 +1,5 @@
 -- What a call hands in: whether its numbers lie in their ranges, and the row that they make.
--- A row is made only of numbers in their ranges. Where a range has no negative number, nat_abs is the number itself.
+-- A row is made only of numbers in their ranges. Where a range has no negative number, unsigned_abs is the number itself.
 use Rattle.std.specs.Prelude.{Bool, ◌&&◌, ℤ, None, unsigned_abs}
 use Rattle.units.specs.Ranges.{inside, account_range, contract_range, day_range, days_range, facility_range, fraction_range, injection_range, interval_range, minute_range, price_range, quantity_range, rate_range, tranche_range}
 use Rattle.calls.specs.declared.ContractCall.{ContractCall}

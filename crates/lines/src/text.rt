@@ -1,4 +1,4 @@
-// Bytes of a line: where a byte stands, a line without the blanks around it, and the number that digits write.
+// Bytes of a line: where a byte stands, and the number that digits write.
 ghost use Rattle.std.specs.Prelude.{◌≡◌, ℕ, ◌<◌, ◌≤◌, length, ◌≢◌, slice_index};
 ghost use Rattle.lines.specs.Numerals.{whole_number, written_number};
 

@@ -14,7 +14,7 @@ pub struct Metered {
 
 impl Metered {
     // A quantity that was not corrected.
-    pub(crate) fn new(base: i64) -> Metered
+    pub fn new(base: i64) -> Metered
         ensures { result ≡ record { base = base; first = None; second = None } }
     {
         Metered {
@@ -52,7 +52,7 @@ impl Metered {
     }
 
     // The same with that first correction.
-    pub(crate) fn with_first(mut self, value: i64) -> Metered
+    pub fn with_first(mut self, value: i64) -> Metered
         ensures { result ≡ record { base = self.base; first = Some value; second = self.second } }
     {
         self.first = Some(value);
@@ -60,7 +60,7 @@ impl Metered {
     }
 
     // The same with that second correction.
-    pub(crate) fn with_second(mut self, value: i64) -> Metered
+    pub fn with_second(mut self, value: i64) -> Metered
         ensures { result ≡ record { base = self.base; first = self.first; second = Some value } }
     {
         self.second = Some(value);

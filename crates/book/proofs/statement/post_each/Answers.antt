@@ -18,8 +18,8 @@ post_turn-requires g c =
     let part = part_of b.held b.room b.takes amount old i mid (omega arith) c.loop-index.invariant.0 in
     let here : Account (i + 1) = (omega arith, omega arith) in (record {
       account = here;
-      around = omega (arith, ints, part.left (i + 1) here (omega arith), c.requires.by_index (i + 1) here, amount_at c.args.amounts.now i);
-      book_nonzero = λ n. part_room i (b.held old) (b.room old) amount (b.held mid) (b.room mid) part (omega arith) c.requires.amounts_bound (λ e. n (sym (amount_at c.args.amounts.now i) ∙ e));
+      balance = omega (arith, ints, part.left (i + 1) here (omega arith), c.requires.balances (i + 1) here, amount_at c.args.amounts.now i);
+      places = λ n. part_room i (b.held old) (b.room old) amount (b.held mid) (b.room mid) part (omega arith) c.requires.places (λ e. n (sym (amount_at c.args.amounts.now i) ∙ e));
     })
 
 pub loop-index-preserved : goal.loop-index-preserved

@@ -8,7 +8,7 @@ post_each-requires g c =
     let room = g.B.Book.room c.args.book.now in
     let amount = amount_of c.args.amounts.now in
     let clear = none_met held room amount c.in_ok-check_statement.ensures in
-    (record { by_index = all_fine held amount clear.0; amounts_bound = clear.1 })
+    record { balances = all_fine held amount clear.0; places = clear.1 }
 
 pub returns : goal.returns
 returns g c =

@@ -13,7 +13,7 @@ returns-then-amount-ne0 g c =
     let new = c.post.new.self in
     let not-zero : amount ≡ pos 0 → ⊥ = λ e. c.if-amount-ne0.true (ap (of_z w128) e) in
     let told = c.post.ensures in
-    let ok : c.post.result ≡ Ok tt = posted_ok (b.held old) (b.room old) a amount c.post.result (b.held new) (b.room new) told.meaning c.requires.account c.requires.around (c.requires.book_nonzero not-zero) in
+    let ok : c.post.result ≡ Ok tt = posted_ok (b.held old) (b.room old) a amount c.post.result (b.held new) (b.room new) told.meaning c.requires.account c.requires.balance (c.requires.places not-zero) in
     record {
       turn = record {
         none = λ e. absurd (not-zero e);

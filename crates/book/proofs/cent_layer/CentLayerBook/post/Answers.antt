@@ -1,7 +1,7 @@
 use Rattle.std.proofs.Common.{◌≡◌, ◌<◌, ◌+ℤ◌, sym, ap, ◌∙◌, arith}
 use Rattle.std.proofs.lemmas.Int.{ints}
 use Rattle.units.specs.Ranges.{Account, Around}
-use Rattle.book.specs.Cents.{whole_cents}
+use Rattle.book.specs.Cents.{Paid, whole_cents}
 use Rattle.book.specs.Meaning.{at_account, balance_limit}
 use Rattle.book.proofs.Cells.{account_here, account_elsewhere}
 use Rattle.book.proofs.Cents.{cents_around, in_cents_kept, own_first_kept}
@@ -32,11 +32,13 @@ returns g c =
     let below = c.in_ok-hold_cents.ensures.meaning in
     let cents : c.cut_to_cents.result.0 ≡ whole_cents (at_account cells a) = c.cut_to_cents.ensures ∙ ap whole_cents (sym after) in
     let payable : b.held new a ≡ whole_cents (at_account cells a) = omega (arith, ints, below.balance, cents) in
+    let paid : Paid b.held a (at_account cells a) old.below new = record { payable = payable; others = below.others; idle = λ e. c.in_ok-hold_cents.ensures.idle (e ∙ sym cents) } in
     record {
       meaning = record {
         answer = sym (accepts (at_account old.exact.cells) (b.room old.below) a c.args.amount.0 here fine free);
         after = record { balance = after ∙ sum; others = others; no_more = below.no_more; at_most_one = below.at_most_one };
       };
       conditions = own_first_kept _ _ _ _ (in_cents_kept (b.held old.below) (b.held new) (at_account old.exact.cells) (at_account cells) a payable below.others others) c.in_ok-hold_cents.ensures.conditions;
-      taken = record { payable = payable; others = below.others; idle = λ e. c.in_ok-hold_cents.ensures.idle (e ∙ sym cents) };
+      paid = paid;
+      taken = paid;
     }
