@@ -13,6 +13,7 @@ pub struct Tally {
 }
 
 // How many places of a list are taken.
+#[tactic(auto, using(crate::proofs::Places::one_counted, crate::proofs::Places::all_counted))]
 fn taken<T>(places: &[Option<T>]) -> usize
     ensures { result ≡ held_places places.now }
 {
