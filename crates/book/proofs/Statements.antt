@@ -1,7 +1,7 @@
 -- A statement posted up to some account: how it begins, goes on by one account, and ends.
 use Rattle.std.proofs.Common.{◌≡◌, ℕ, zero, suc, ◌+◌, ◌<◌, ◌≤◌, false, ◌⊎◌, List, get_or, ℤ, pos, negsuc, ◌+ℤ◌, sym, refl, ap, ◌∙◌, subst, inl, inr, ⊎_elim, add-one, arith}
 use Rattle.std.proofs.lemmas.Int.{ints}
-use Rattle.std.proofs.lemmas.Bool.{cases_eq, lt-ltb, le-ltb, not-false}
+use Rattle.std.proofs.lemmas.Bool.{cases_eq, lt-ltb, not-false}
 use Rattle.std.proofs.lemmas.Bool.Decides.{nat_tests}
 use Rattle.units.specs.Checks.{first_met}
 use Rattle.units.specs.Ranges.{Account, Around, accounts}
@@ -87,12 +87,6 @@ module _ {S : Type 0} (held : S → ℕ → ℤ) (room : S → ℕ) (takes : S �
 module _ (held : ℕ → ℤ) (room : ℕ) (amount : ℕ → ℤ) where
   pub refuses_beyond : 0 < count accounts (beyond held amount) → first_met (statement_checks held room amount) ≡ 15
   refuses_beyond h = simp (lt-ltb 0 (count accounts (beyond held amount)) h)
-
-  pub refuses_places : count accounts (beyond held amount) ≡ 0 → room < postings amount → first_met (statement_checks held room amount) ≡ 16
-  refuses_places e h = simp (e, lt-ltb room (postings amount) h)
-
-  pub settles : count accounts (beyond held amount) ≡ 0 → postings amount ≤ room → first_met (statement_checks held room amount) ≡ 0
-  settles e h = simp (e, le-ltb room (postings amount) h)
 
   -- what is known where no check is met
   pub none_met : ◌≡◌ {A = ℕ} 0 (first_met (statement_checks held room amount)) → (count accounts (beyond held amount) ≡ 0) × (postings amount ≤ room)

@@ -1,37 +1,59 @@
--- The lines of a passbook: read one further, vacated after the first vacant one, and with that one filled.
-use Rattle.std.proofs.Common.{◌≡◌, ℕ, zero, suc, ◌+◌, ◌-◌, ◌<◌, ◌≤◌, true, false, cond, eqb, List, [], ◌∷◌, ◌++◌, length, get_or, take, drop, set, replicate, ℤ, pos, ◌+ℤ◌, is_some, Some, None, Option, sym, refl, ap, ◌∙◌, ⊎_elim, arith, length-append, length-set, length-take}
+-- The lines of a passbook: counted up to the first vacant one, vacated after it, and with that one filled.
+use Rattle.std.proofs.Common.{◌≡◌, ℕ, zero, suc, ◌+◌, ◌<◌, ◌≤◌, Bool, true, false, cond, eqb, List, [], ◌∷◌, ◌++◌, length, get_or, take, set, replicate, ℤ, pos, ◌+ℤ◌, is_some, Some, None, Option, sym, refl, ap, ◌∙◌, arith, length-append, length-set, length-take}
 use lib.ListN.{length-replicate}
-use Rattle.std.proofs.lemmas.List.{drop_more, same_lists, get_or_default, get_or_append_left, get_or-append_right, get_or-take, get_or-replicate, get_or-set_other}
-use Rattle.std.proofs.lemmas.Bool.{cases_lt, cond-true, cond-false, eq-eqb, ne_eqb}
+use Rattle.std.proofs.lemmas.List.{get_or-set_other, map-id}
+use Rattle.std.proofs.lemmas.Grind.{common_steps}
+use Rattle.std.proofs.lemmas.Iterator.{YieldsList, items_from_drains}
+use Rattle.std.specs.Iterator.{Drains}
+use Rattle.std.specs.List.{prefix_len, take_while, filter, filter_map, last_or}
+use Rattle.std.proofs.lemmas.List.Sums.{take_while-cons}
+use Rattle.std.proofs.lemmas.List.Folds.{length-prefix_len}
+use Rattle.std.proofs.lemmas.Bool.{cond-true, cond-false, eq-eqb, ne_eqb}
 use Rattle.book.specs.Lines.{used_lines, last_balance, balance_in, free_lines, vacated, Filled, Tidy}
 use Rattle.book.specs.Meaning.{Raised}
 use Rattle.book.specs.declared.entry.Entry.{Entry}
 use Rattle.book.proofs.Cells.{at_replicate}
 
--- the lines from an index on begin with the line that was read there
-pub next_line : (ls : List (Option Entry)) (i : ℕ) (x : Option Entry) → i < length ls → x ≡ get_or ls i x → drop i ls ≡ x ∷ drop (i + 1) ls
-next_line ls i x h e = drop_more ls i x h ∙ ap (λ y. y ∷ drop (i + 1) ls) (sym e)
+used_prefix : (ls : List (Option Entry)) → used_lines ls ≡ prefix_len is_some ls
+used_prefix [] = refl
+used_prefix (None ∷ ls) = refl
+used_prefix (Some e ∷ ls) = omega (arith, used_prefix ls)
 
-pub used_vacant : (x : Option Entry) (ls : List (Option Entry)) → is_some x ≡ false → used_lines (x ∷ ls) ≡ 0
-used_vacant None ls e = refl
-used_vacant (Some y) ls e = absurd (let z : ◌≡◌ {A = ℕ} 0 1 = cc in omega arith)
+-- the used lines are those up to the first vacant one
+pub used_taken : (ls : List (Option Entry)) → used_lines ls ≡ length (take_while is_some ls)
+used_taken ls = used_prefix ls ∙ sym (length-prefix_len is_some ls)
 
-pub used_filled_line : (x : Option Entry) (ls : List (Option Entry)) → is_some x ≡ true → used_lines (x ∷ ls) ≡ suc (used_lines ls)
-used_filled_line None ls e = absurd (let z : ◌≡◌ {A = ℕ} 0 1 = cc in omega arith)
-used_filled_line (Some y) ls e = refl
+-- the entries of account a in some lines
+abbrev entries_of : List (Option Entry) → ℕ → List Entry
+entries_of ls a = filter (λ e. eqb e.account a) (filter_map (λ o. o) ls)
+
+-- the entries of account a in the used lines
+abbrev pub said : List (Option Entry) → ℕ → List Entry
+said ls a = entries_of (take_while is_some ls) a
+
+-- the balance after an entry, or zero where there is none
+abbrev pub after_of : Option Entry → ℤ
+after_of None = pos 0
+after_of (Some e) = e.after.0
+
+one_line : (b : Bool) (e : Entry) (o : Option Entry) (ls : List (Option Entry)) (a : ℕ) → ((p : Option Entry) → last_balance (after_of p) ls a ≡ after_of (last_or p (said ls a))) → last_balance (cond b e.after.0 (after_of o)) ls a ≡ after_of (last_or o (cond b (e ∷ said ls a) (said ls a)))
+one_line true e o ls a h = h (Some e)
+one_line false e o ls a h = h o
+
+-- what the last used line of an account says is what the last of its entries says
+pub last_said : (o : Option Entry) (ls : List (Option Entry)) (a : ℕ) → last_balance (after_of o) ls a ≡ after_of (last_or o (said ls a))
+last_said o [] a = refl
+last_said o (None ∷ ls) a = refl
+last_said o (Some e ∷ ls) a = one_line (eqb e.account a) e o ls a (λ p. last_said p ls a) ∙ ap (λ us. after_of (last_or o (entries_of us a))) (sym (take_while-cons is_some (Some e) ls))
+
+-- an iterator that was called up to its end gave all that it yields
+pub items_given : {S A : Type 0} {steps : S → Option A → S → Type 0} {s : S} {all : List A} (xs : List A) → Drains steps s xs → YieldsList steps (λ x. x) s all → xs ≡ all
+items_given xs (u, d) y = sym (map-id xs) ∙ items_from_drains xs (d.0, d.1, λ _. (u, d.2)) y
 
 pub used_at_most : (ls : List (Option Entry)) → used_lines ls ≤ length ls
 used_at_most [] = omega arith
 used_at_most (None ∷ ls) = omega arith
 used_at_most (Some e ∷ ls) = omega (arith, used_at_most ls)
-
--- a line with an entry is passed: the balance is that entry's where it is the account's
-pub last_more : (z z' r : ℤ) (a : ℕ) (ls : List (Option Entry)) (i : ℕ) (e : Entry) → drop i ls ≡ Some e ∷ drop (i + 1) ls → z' ≡ cond (eqb e.account a) e.after.0 z → last_balance z (drop i ls) a ≡ r → last_balance z' (drop (i + 1) ls) a ≡ r
-last_more z z' r a ls i e p q inv = ap (λ x. last_balance x (drop (i + 1) ls) a) q ∙ sym (ap (λ l. last_balance z l a) p) ∙ inv
-
--- no line follows that says more
-pub last_stops : (z r : ℤ) (a : ℕ) (l l' : List (Option Entry)) → l ≡ l' → last_balance z l' a ≡ z → last_balance z l a ≡ r → z ≡ r
-last_stops z r a l l' e s inv = sym s ∙ sym (ap (λ k. last_balance z k a) e) ∙ inv
 
 front_length : (ls : List (Option Entry)) → length (take (used_lines ls) ls) ≡ used_lines ls
 front_length ls = omega (arith, length-take (used_lines ls) ls, used_at_most ls)
@@ -40,18 +62,6 @@ length_vacated : (ls : List (Option Entry)) → length (vacated ls) ≡ length l
 length_vacated ls =
     let vacant : Option Entry = None in
     omega (arith, front_length ls, length-append (take (used_lines ls) ls) (replicate (free_lines ls) None), length-replicate (free_lines ls) vacant, used_at_most ls)
-
--- lines that agree with others up to the first vacant one and are vacant from there on
-pub vacated_by_places : (ls ls' : List (Option Entry)) → length ls' ≡ length ls → ((k : ℕ) → k < used_lines ls → get_or ls' k None ≡ get_or ls k None) → ((k : ℕ) → used_lines ls ≤ k → k < length ls → get_or ls' k None ≡ None) → ls' ≡ vacated ls
-vacated_by_places ls ls' e front rest =
-    let u = used_lines ls in
-    let front-is = front_length ls in
-    let all : length ls' ≡ length (vacated ls) = omega (arith, length_vacated ls) in
-    same_lists ls' (vacated ls) all (λ k d h.
-    get_or_default ls' k d None h ∙ ⊎_elim
-    (λ lt. front k lt ∙ sym (get_or_append_left (take u ls) (replicate (free_lines ls) None) d k (omega arith) ∙ get_or-take u ls k d lt ∙ get_or_default ls k d None (omega arith)))
-    (λ ge. rest k ge (omega arith) ∙ sym (get_or-append_right (take u ls) (replicate (free_lines ls) None) u k d front-is ge ∙ get_or-replicate (free_lines ls) (k - u) None d (omega arith)))
-    (cases_lt k u))
 
 -- where no line is used, none says anything
 pub none_last : (z : ℤ) (a : ℕ) (ls : List (Option Entry)) → used_lines ls ≡ 0 → last_balance z ls a ≡ z
@@ -98,10 +108,6 @@ used_not_vacant (None ∷ ls) k h e = omega arith
 used_not_vacant (Some x ∷ ls) zero h e = let z : ◌≡◌ {A = ℕ} 0 1 = cc in omega arith
 used_not_vacant (Some x ∷ ls) (suc k) h e = used_not_vacant ls k (omega arith) e
 
--- and a line with an entry is used
-pub not_vacant_used : (ls : List (Option Entry)) (k : ℕ) (x : Entry) → Tidy ls → get_or ls k None ≡ Some x → k < used_lines ls
-not_vacant_used ls k x t e = ⊎_elim (λ h. h) (λ h. absurd (let v : get_or ls k None ≡ None = t k h in let z : ◌≡◌ {A = ℕ} 0 1 = cc in omega arith)) (cases_lt k (used_lines ls))
-
 -- vacant lines say nothing
 none_used : (ls : List (Option Entry)) → Tidy (None ∷ ls) → used_lines ls ≡ 0
 none_used [] t = refl
@@ -146,3 +152,10 @@ module _ (ls : List (Option Entry)) (u : ℕ) (e : Entry) (q : u ≡ used_lines 
 
   pub fill_line : (amount : ℤ) → e.amount.0 ≡ amount → e.after.0 ≡ balance_in ls e.account +ℤ amount → Filled ls e.account amount (set ls u (Some e))
   fill_line amount p s = record { entry = e; of_account = refl; of_amount = p; of_balance = s; filled = at_used }
+
+-- what a count of the used lines, a vacating and a reading of a line want
+pub ruleset counting = (used_taken, used_at_most, common_steps)
+
+pub ruleset vacating = (used_vacated, tidy_vacated, balance_vacated, free_vacated, none_last)
+
+pub ruleset reading = (used_at_most, used_not_vacant, common_steps)

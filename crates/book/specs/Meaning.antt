@@ -1,5 +1,5 @@
 -- What a book means, a balance for each account and a number of places, and what its calls do to that.
-use Rattle.std.specs.Prelude.{◌≡◌, ℕ, ◌+◌, ◌-◌, ◌*◌, ◌≤◌, Bool, not, ◌&&◌, List, [], ◌∷◌, ℤ, pos, ◌+ℤ◌, neg_ℤ, IfOk, Result, MatchResult, ◌==◌, ◌≢◌, int_le, nat_le, slice_index_or, unsigned_abs}
+use Rattle.std.specs.Prelude.{◌≡◌, ℕ, ◌+◌, ◌*◌, ◌≤◌, Bool, not, ◌&&◌, List, [], ◌∷◌, ℤ, pos, ◌+ℤ◌, neg_ℤ, IfOk, Result, MatchResult, ◌==◌, ◌≢◌, int_le, nat_le, unsigned_abs}
 use Rattle.units.specs.Checks.{Check, first_met}
 use Rattle.units.specs.Ranges.{Account, accounts, balance_range, inside}
 use Rattle.units.specs.Refusals.{answer_number}
@@ -25,10 +25,6 @@ is_around far z = int_le (neg_ℤ (pos far)) z && int_le z (pos far)
 -- whether a balance may be z
 abbrev pub is_balance : ℤ → Bool
 is_balance z = inside balance_range z
-
--- what a list of balances, by rising account, has for account a
-abbrev pub at_account : List ℤ → ℕ → ℤ
-at_account zs a = slice_index_or zs (a - 1) (pos 0)
 
 -- every balance is zero
 abbrev pub Zeros : (ℕ → ℤ) → Type 0

@@ -15,7 +15,7 @@ abbrev pub is_zero : ℤ → Bool
 is_zero (pos n) = n == 0
 is_zero (negsuc n) = false
 
--- what a list of amounts, by rising account, has for account a
+-- what a list of amounts or of balances, by rising account, has for account a
 abbrev pub amount_of : List Money → ℕ → ℤ
 amount_of ms a = (slice_index_or ms (a - 1) (record { 0 = pos 0 })).0
 

@@ -1,38 +1,42 @@
 // The balances of all accounts, by rising account.
-ghost use Rattle.std.specs.Prelude.{◌≡◌, ℕ, ◌<◌, pos, ◌≢◌, slice_index_or};
-ghost use Rattle.units.specs.Ranges.{accounts, Around};
-ghost use Rattle.book.specs.Meaning.{balance_limit};
+ghost use Rattle.std.specs.Prelude.{◌≡◌, ℕ, pos, ◌≢◌};
+ghost use Rattle.units.specs.Ranges.{Account, Around};
+ghost use Rattle.book.specs.Meaning.{balance_limit, Shown};
+ghost use Rattle.book.specs.Statement.{amount_of};
 
-use units::{ACCOUNTS, Money};
+use crate::limits::account_index;
+use units::{ACCOUNTS, Money, Refusal};
 
 #[derive(Drop)]
 pub struct Balances {
-    cells: [i128; ACCOUNTS],
-    ghost bounded: { (k : ℕ) → Around balance_limit (slice_index_or cells k (pos 0)) },
+    cells: [Money; ACCOUNTS],
+    ghost bounded: { (a : ℕ) → Around balance_limit (amount_of cells a) },
 }
 
 impl Balances {
+    // Zero for every account.
     pub(crate) fn zero() -> Balances
-        ensures { (k : ℕ) → slice_index_or result.cells k (pos 0) ≡ pos 0 }
+        ensures { (a : ℕ) → amount_of result.cells a ≡ pos 0 }
     {
         Balances {
-            cells: [0; ACCOUNTS],
+            cells: [Money(0); ACCOUNTS],
         }
     }
 
-    // What stands at an index, counted from 0.
-    pub(crate) fn at(&self, index: usize) -> Money
-        requires { index < accounts }
-        ensures { (result.0 ≡ slice_index_or self.now.cells index (pos 0)) × Around balance_limit result.0 }
+    // The balance of an account.
+    pub(crate) fn of(&self, account: u16) -> Result<Money, Refusal>
+        ensures { Shown (amount_of self.now.cells) account result }
     {
-        Money(self.cells[index])
+        let index = account_index(account)?;
+        Ok(self.cells[index])
     }
 
-    pub(crate) fn put(&mut self, index: usize, balance: Money)
-        requires { (index < accounts) × (Around balance_limit balance.0) }
-        ensures here { slice_index_or self.new.cells index (pos 0) ≡ balance.0 }
-        ensures elsewhere { (k : ℕ) → (k ≢ index) → slice_index_or self.new.cells k (pos 0) ≡ slice_index_or self.old.cells k (pos 0) }
+    // Puts an account's balance, and leaves every other.
+    pub(crate) fn put(&mut self, account: u16, balance: Money)
+        requires { (Account account) × (Around balance_limit balance.0) }
+        ensures here { amount_of self.new.cells account ≡ balance.0 }
+        ensures elsewhere { (a : ℕ) → Account a → (a ≢ account) → amount_of self.new.cells a ≡ amount_of self.old.cells a }
     {
-        self.cells[index] = balance.0;
+        self.cells[account as usize - 1] = balance;
     }
 }

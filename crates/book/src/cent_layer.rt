@@ -1,13 +1,14 @@
 // The cent layer: a book over any other book. It keeps each exact balance, and has the book below hold it in whole
 // cents, cut towards zero. What the book below holds is called the payable.
-ghost use Rattle.std.specs.Prelude.{◌≡◌, ℕ, ◌-◌, ◌<◌, ◌-ℤ◌, MatchResult};
+ghost use Rattle.std.specs.Prelude.{◌≡◌, ℕ, ◌<◌, ◌-ℤ◌, MatchResult};
 ghost use Rattle.units.specs.Ranges.{Account, Around};
 ghost use Rattle.book.specs.Cents.{whole_cents, InCents, own_first, Paid};
-ghost use Rattle.book.specs.Meaning.{at_account, balance_limit, Zeros, Shown, Raised, Posted};
+ghost use Rattle.book.specs.Meaning.{balance_limit, Zeros, Shown, Raised};
+ghost use Rattle.book.specs.Statement.{amount_of};
 
 use crate::balances::Balances;
 use crate::interface::Book;
-use crate::limits::{account_index, raised};
+use crate::limits::raised;
 use units::{Money, Refusal, div_towards_zero};
 
 #[derive(Drop)]
@@ -18,10 +19,11 @@ pub struct CentLayer<B> {
 
 impl<B: Book> CentLayer<B> {
     // A layer of zeros over a book.
+    #[tactic(auto, unfolding(crate::specs::Cents::whole_cents))]
     pub fn over(below: B) -> CentLayer<B>
-        ensures zeros { Zeros (at_account result.exact.cells) }
+        ensures zeros { Zeros (amount_of result.exact.cells) }
         ensures kept { result.below ≡ below }
-        ensures in_cents { Zeros (B.held below) → InCents (B.held result.below) (at_account result.exact.cells) }
+        ensures in_cents { Zeros (B.held below) → InCents (B.held result.below) (amount_of result.exact.cells) }
     {
         CentLayer {
             exact: Balances::zero(),
@@ -46,6 +48,7 @@ impl<B: Book> CentLayer<B> {
 }
 
 // A balance in whole cents, cut towards zero.
+#[tactic(auto, unfolding(crate::specs::Cents::whole_cents))]
 fn cut_to_cents(balance: Money) -> Money
     ensures { result.0 ≡ whole_cents balance.0 }
 {
@@ -60,45 +63,39 @@ fn hold_cents<B: Book>(book: &mut B, account: u16, cents: Money) -> Result<(), R
     ensures conditions { (i : ℕ) → B.holds i book.old → B.holds i book.new }
 {
     let payable = book.balance(account)?;
-    if payable.0 != cents.0 {
-        book.post(account, Money(cents.0 - payable.0))?;
+    if payable != cents {
+        book.post(account, cents - payable)?;
     }
     Ok(())
 }
 
 impl<B: Book> Book for CentLayer<B> {
-    ghost held = { λ s. at_account s.exact.cells };
+    ghost held = { λ s. amount_of s.exact.cells };
 
     ghost room = { λ s. B.Book.room s.below };
 
-    ghost holds = { λ i s. own_first (InCents (B.Book.held s.below) (at_account s.exact.cells)) (λ j. B.Book.holds j s.below) i };
+    ghost holds = { λ i s. own_first (InCents (B.Book.held s.below) (amount_of s.exact.cells)) (λ j. B.Book.holds j s.below) i };
 
-    ghost takes = { λ s a _ t. Paid B.Book.held a (at_account t.exact.cells a) s.below t.below };
+    ghost takes = { λ s a _ t. Paid B.Book.held a (amount_of t.exact.cells a) s.below t.below };
 
-    ghost bounded = { λ s a _. s.exact.bounded (a - 1) };
+    ghost bounded = { λ s a _. s.exact.bounded a };
 
     fn balance(&self, account: u16) -> Result<Money, Refusal> {
-        let index = account_index(account)?;
-        Ok(self.exact.at(index))
+        self.exact.of(account)
     }
 
     fn places(&self) -> usize {
         self.below.places()
     }
 
-    fn post(&mut self, account: u16, amount: Money) -> Result<(), Refusal>
-        ensures meaning { Posted (at_account self.old.exact.cells) (B.Book.room self.old.below) account amount.0 result (at_account self.new.exact.cells) (B.Book.room self.new.below) }
-        ensures conditions { (i : ℕ) → own_first (InCents (B.Book.held self.old.below) (at_account self.old.exact.cells)) (λ j. B.Book.holds j self.old.below) i → own_first (InCents (B.Book.held self.new.below) (at_account self.new.exact.cells)) (λ j. B.Book.holds j self.new.below) i }
-        ensures paid { MatchResult result (λ _. Paid B.Book.held account (at_account self.new.exact.cells account) self.old.below self.new.below) (λ _. self.new ≡ self.old) }
-        ensures taken { MatchResult result (λ _. Paid B.Book.held account (at_account self.new.exact.cells account) self.old.below self.new.below) (λ _. self.new ≡ self.old) }
-    {
-        let index = account_index(account)?;
-        let balance = raised(self.exact.at(index), amount)?;
+    fn post(&mut self, account: u16, amount: Money) -> Result<(), Refusal> {
+        let balance = self.balance(account)?;
+        let after = raised(balance, amount)?;
         if self.below.places() == 0 {
             return Err(Refusal::TooFewPlaces);
         }
-        hold_cents(&mut self.below, account, cut_to_cents(balance))?;
-        self.exact.put(index, balance);
+        hold_cents(&mut self.below, account, cut_to_cents(after))?;
+        self.exact.put(account, after);
         Ok(())
     }
 }

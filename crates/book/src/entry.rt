@@ -4,7 +4,14 @@ ghost use Rattle.units.specs.Ranges.{Account, Around};
 ghost use Rattle.units.specs.declared.refusal.Refusal.TheVariants.{OutOfRange};
 ghost use Rattle.book.specs.Meaning.{amount_limit, balance_limit, is_account, is_around, is_balance};
 
-use units::{ACCOUNTS, BALANCE_LIMIT, Money, Refusal};
+use units::range::ACCOUNT;
+use units::{BALANCE, Money, Range, Refusal};
+
+// An amount that leads from one balance to another.
+const AMOUNT: Range = Range {
+    low: 2 * BALANCE.low,
+    high: 2 * BALANCE.high,
+};
 
 #[derive(Clone, Copy)]
 pub struct Entry {
@@ -21,10 +28,7 @@ impl Entry {
         ensures made { MatchResult result (λ e. (e.account ≡ account) × (e.amount ≡ amount) × (e.after ≡ after)) (λ e. e ≡ OutOfRange) }
         ensures accepts { is_ok result ≡ (is_account account && (is_around amount_limit amount.0 && is_balance after.0)) }
     {
-        let known = 1 <= account && account as usize <= ACCOUNTS;
-        let small = -2 * BALANCE_LIMIT <= amount.0 && amount.0 <= 2 * BALANCE_LIMIT;
-        let within = -BALANCE_LIMIT <= after.0 && after.0 <= BALANCE_LIMIT;
-        if known && small && within {
+        if ACCOUNT.holds(account as i64) && amount.is_within(AMOUNT) && after.is_within(BALANCE) {
             Ok(Entry {
                 account,
                 amount,

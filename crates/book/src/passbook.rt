@@ -1,9 +1,9 @@
 // The passbook: a book over a list of lines that its owner hands over. A line is vacant or has an entry, and the lines
 // before the first vacant one are used. What it means is in its lines alone.
-ghost use Rattle.std.specs.Prelude.{◌≡◌, ℕ, ◌+◌, ◌-◌, ◌≤◌, Some, None, MatchResult, slice_index_or};
+ghost use Rattle.std.specs.Prelude.{◌≡◌, ℕ, ◌-◌, ◌≤◌, Some, None, MatchResult, slice_index_or};
 ghost use Rattle.units.specs.declared.refusal.Refusal.TheVariants.{OutOfRange};
 ghost use Rattle.book.specs.Lines.{balance_around, balance_in, free_lines, used_lines, vacated, Filled, Tidy};
-ghost use Rattle.book.specs.Meaning.{Posted, Zeros};
+ghost use Rattle.book.specs.Meaning.{Zeros};
 
 use crate::entry::Entry;
 use crate::interface::Book;
@@ -13,6 +13,7 @@ use units::{Money, Refusal};
 
 #[derive(Drop)]
 pub struct Passbook<'a> {
+    // The lines stay their owner's, who hands them over and is handed them back: so they are no list of the book's own.
     lines: &'a mut [Option<Entry>],
     used: usize,
     ghost counted: { used ≡ used_lines lines.now },
@@ -21,6 +22,7 @@ pub struct Passbook<'a> {
 
 impl<'a> Passbook<'a> {
     // A passbook over these lines; every line after the first vacant one is vacated.
+    #[tactic(auto, using(crate::proofs::Used::vacating))]
     pub fn over(lines: &'a mut [Option<Entry>]) -> Passbook<'a>
         ensures after { result.lines.now ≡ vacated lines.old }
         ensures balances { (a : ℕ) → balance_in result.lines.now a ≡ balance_in lines.old a }
@@ -32,17 +34,14 @@ impl<'a> Passbook<'a> {
     }
 
     // The used line of that number, counted from 1.
+    #[tactic(auto, using(crate::proofs::Used::reading))]
     pub fn entry(&self, number: usize) -> Result<Entry, Refusal>
         ensures { MatchResult result (λ e. (1 ≤ number) × (number ≤ used_lines self.now.lines.now) × (slice_index_or self.now.lines.now (number - 1) None ≡ Some e)) (λ e. (e ≡ OutOfRange) × (1 ≤ number → number ≤ used_lines self.now.lines.now → ⊥)) }
     {
-        let lines = &*self.lines;
-        if number < 1 || number > lines.len() {
-            return Err(Refusal::OutOfRange);
-        }
-        let line = &lines[number - 1];
-        match line {
-            Some(entry) => Ok(*entry),
-            None => Err(Refusal::OutOfRange),
+        let index = number.checked_sub(1).ok_or(Refusal::OutOfRange)?;
+        match self.lines.get(index) {
+            Some(Some(entry)) => Ok(*entry),
+            _ => Err(Refusal::OutOfRange),
         }
     }
 
@@ -72,16 +71,12 @@ impl<'a> Book for Passbook<'a> {
         Ok(last_balance(lines, account))
     }
 
+    #[tactic(auto, using(crate::proofs::Used::used_at_most))]
     fn places(&self) -> usize {
         self.lines.len() - self.used
     }
 
-    fn post(&mut self, account: u16, amount: Money) -> Result<(), Refusal>
-        ensures meaning { Posted (balance_in self.old.lines.now) (free_lines self.old.lines.now) account amount.0 result (balance_in self.new.lines.now) (free_lines self.new.lines.now) }
-        ensures conditions { (i : ℕ) → Unit {0} → Unit {0} }
-        ensures line { MatchResult result (λ _. Filled self.old.lines.now account amount.0 self.new.lines.now) (λ _. self.new.lines.now ≡ self.old.lines.now) }
-        ensures taken { MatchResult result (λ _. Filled self.old.lines.now account amount.0 self.new.lines.now) (λ _. self.new ≡ self.old) }
-    {
+    fn post(&mut self, account: u16, amount: Money) -> Result<(), Refusal> {
         let balance = self.balance(account)?;
         let after = raised(balance, amount)?;
         if self.used >= self.lines.len() {

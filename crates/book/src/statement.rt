@@ -14,6 +14,7 @@ use units::{ACCOUNTS, Money, Refusal};
 pub fn check_statement<B: Book>(book: &B, amounts: &[Money; ACCOUNTS]) -> Result<(), Refusal>
     ensures { answer_number result ≡ first_met (statement_checks (B.held book.now) (B.room book.now) (amount_of amounts.now)) }
 {
+    // A `for` with `?`, the plain form: it counts the postings on the way, which a closure would have to change.
     let mut needed: usize = 0;
     for (index, amount) in amounts.iter().enumerate() {
         let balance = book.balance(index as u16 + 1)?;
@@ -28,7 +29,9 @@ pub fn check_statement<B: Book>(book: &B, amounts: &[Money; ACCOUNTS]) -> Result
     Ok(())
 }
 
-// One account's turn: its amount is posted unless it is zero.
+// One account's turn: its amount is posted unless it is zero. What is required is of a book and an amount together, which
+// no type of either can hold; that conditions are kept is a fact of a change, which no type can hold either.
+#[tactic(auto, using(crate::proofs::Posting::posted_ok))]
 fn post_turn<B: Book>(book: &mut B, account: u16, amount: Money)
     requires account { Account account }
     requires balance { Around balance_limit (B.held book.old account +ℤ amount.0) }
@@ -49,6 +52,7 @@ fn post_each<B: Book>(book: &mut B, amounts: &[Money; ACCOUNTS])
     ensures turns { InTurn B.held B.room B.takes (amount_of amounts.now) accounts book.old book.new }
     ensures conditions { (i : ℕ) → B.holds i book.old → B.holds i book.new }
 {
+    // A `for`, the plain form: each turn changes the book, which a closure would have to capture and change.
     for (index, amount) in amounts.iter().enumerate() {
         post_turn(book, index as u16 + 1, *amount);
     }

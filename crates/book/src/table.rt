@@ -1,10 +1,10 @@
 // The table book: one balance for each account, zero at first, and always room for a million postings.
-ghost use Rattle.std.specs.Prelude.{◌-◌};
-ghost use Rattle.book.specs.Meaning.{at_account, Zeros};
+ghost use Rattle.book.specs.Meaning.{Zeros};
+ghost use Rattle.book.specs.Statement.{amount_of};
 
 use crate::balances::Balances;
 use crate::interface::Book;
-use crate::limits::{account_index, raised};
+use crate::limits::raised;
 use units::{Money, Refusal};
 
 #[derive(Drop)]
@@ -14,7 +14,7 @@ pub struct TableBook {
 
 impl TableBook {
     pub fn new() -> TableBook
-        ensures { Zeros (at_account result.balances.cells) }
+        ensures { Zeros (amount_of result.balances.cells) }
     {
         TableBook {
             balances: Balances::zero(),
@@ -23,7 +23,7 @@ impl TableBook {
 }
 
 impl Book for TableBook {
-    ghost held = { λ s. at_account s.balances.cells };
+    ghost held = { λ s. amount_of s.balances.cells };
 
     ghost room = { λ _. 1000000 };
 
@@ -31,11 +31,10 @@ impl Book for TableBook {
 
     ghost takes = { λ _ _ _ _. Unit {0} };
 
-    ghost bounded = { λ s a _. s.balances.bounded (a - 1) };
+    ghost bounded = { λ s a _. s.balances.bounded a };
 
     fn balance(&self, account: u16) -> Result<Money, Refusal> {
-        let index = account_index(account)?;
-        Ok(self.balances.at(index))
+        self.balances.of(account)
     }
 
     fn places(&self) -> usize {
@@ -43,9 +42,9 @@ impl Book for TableBook {
     }
 
     fn post(&mut self, account: u16, amount: Money) -> Result<(), Refusal> {
-        let index = account_index(account)?;
-        let balance = raised(self.balances.at(index), amount)?;
-        self.balances.put(index, balance);
+        let balance = self.balance(account)?;
+        let after = raised(balance, amount)?;
+        self.balances.put(account, after);
         Ok(())
     }
 }

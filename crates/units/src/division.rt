@@ -1,26 +1,21 @@
 // Quotients of a signed number by a positive divisor, in the three roundings that the rules use.
-// A divisor of zero has no quotient.
-ghost use Rattle.std.specs.Prelude.{◌≡◌, ℕ, ◌+◌, ◌*◌, ◌^◌, ◌<◌, ◌≤◌, ℤ, pos, ◌+ℤ◌, ◌*ℤ◌, MatchOption};
+// A divisor of zero has no quotient. One function with the rounding as an argument would be no plainer: its contract and
+// its body would be told by the cases of that argument.
+ghost use Rattle.std.specs.Prelude.{◌≡◌, ◌<◌, MatchOption};
 ghost use Rattle.units.specs.Division.{floor, nearest, towards_zero};
 
 // Rounded towards minus infinity.
 pub fn div_floor(n: i128, d: u64) -> Option<i128>
     ensures { MatchOption result (d ≡ 0) (λ q. (0 < d) × (q ≡ floor n d)) }
 {
-    if d == 0 {
-        return None;
-    }
-    Some(n.div_euclid(d as i128))
+    n.checked_div_euclid(d as i128)
 }
 
 // Rounded towards zero.
 pub fn div_towards_zero(n: i128, d: u64) -> Option<i128>
     ensures { MatchOption result (d ≡ 0) (λ q. (0 < d) × (q ≡ towards_zero n d)) }
 {
-    if d == 0 {
-        return None;
-    }
-    Some(n / d as i128)
+    n.checked_div(d as i128)
 }
 
 // Rounded to the nearest whole, halves upwards.

@@ -6,7 +6,7 @@ ghost use Rattle.units.specs.declared.refusal.Refusal.TheVariants.{OutOfRange};
 use crate::range::{DAY, INTERVAL};
 use crate::refusal::Refusal;
 
-#[derive(Clone, Copy, PartialEq, Eq, Debug)]
+#[derive(Clone, Copy, PartialEq, Eq, PartialOrd, Ord, Debug)]
 pub struct HalfHour {
     pub day: u16,
     pub interval: u8,

@@ -13,7 +13,7 @@ pub mod window;
 pub use division::{div_floor, div_nearest, div_towards_zero};
 pub use half_hour::HalfHour;
 pub use quantity::{Energy, Money, Price};
-pub use range::{ACCOUNTS, BALANCE_LIMIT, CONTRACTS, FACILITIES, Range};
+pub use range::{ACCOUNTS, BALANCE, BALANCE_LIMIT, CONTRACTS, FACILITIES, Range};
 pub use refusal::Refusal;
 pub use stamp::Stamp;
 pub use window::Window;
@@ -56,10 +56,7 @@ mod tests {
 
     // The window of a stamp, by its number; 0 where there is no such stamp.
     fn window_number(days: i64, minute: i64) -> u8 {
-        match Stamp::new(days, minute) {
-            Ok(s) => s.window().number(),
-            Err(_) => 0,
-        }
+        Stamp::new(days, minute).map_or(0, |s| s.window().number())
     }
 
     #[test]

@@ -1,10 +1,12 @@
 // Energy in kWh, prices and rates in cents per MWh, and money in millicents. A quantity, a price and a sum of money
 // never stand in for one another: the one way from the first two to the third is `Energy::at`.
-ghost use Rattle.std.specs.Prelude.{◌≡◌, ℤ, ◌+ℤ◌, ◌-ℤ◌, ◌*ℤ◌, FitsSigned};
+ghost use Rattle.std.specs.Prelude.{◌≡◌, ◌+ℤ◌, ◌-ℤ◌, ◌*ℤ◌, false, true, FitsSigned, Some, MatchOption};
+ghost use Rattle.std.specs.Fmt.{signed_decimal};
 ghost use Rattle.std.specs.Int.{w128};
 ghost use Rattle.units.specs.Ranges.{balance_range, inside};
 
-use crate::range::BALANCE_LIMIT;
+use crate::range::{BALANCE, Range};
+use std::fmt;
 use std::ops::{Add, Sub};
 
 #[derive(Clone, Copy, PartialEq, Eq, Debug)]
@@ -26,11 +28,26 @@ impl Energy {
 }
 
 impl Money {
+    // Whether this much lies in a range, both ends included.
+    pub fn is_within(self, range: Range) -> bool
+        ensures { result ≡ inside range self.0 }
+    {
+        range.holds_wide(self.0)
+    }
+
     // Whether a balance or the pending sum may be this much.
     pub fn is_within_limit(self) -> bool
         ensures { result ≡ inside balance_range self.0 }
     {
-        -BALANCE_LIMIT <= self.0 && self.0 <= BALANCE_LIMIT
+        self.is_within(BALANCE)
+    }
+
+    // This much and more, where the sum lies in a range; nothing where it lies outside it.
+    pub fn plus_within(self, more: Money, range: Range) -> Option<Money>
+        ensures { MatchOption result (inside range (self.0 +ℤ more.0) ≡ false) (λ m. (m.0 ≡ self.0 +ℤ more.0) × (inside range (self.0 +ℤ more.0) ≡ true)) }
+    {
+        let sum = Money(self.0.checked_add(more.0)?);
+        sum.is_within(range).then_some(sum)
     }
 }
 
@@ -56,5 +73,14 @@ impl Sub<Money> for Money {
 
     fn sub(self, rhs: Money) -> Money {
         Money(self.0 - rhs.0)
+    }
+}
+
+// Money is written as its millicents.
+impl fmt::Display for Money {
+    ghost output = { λ m. Some (signed_decimal m.0) };
+
+    fn fmt<W: fmt::Write>(&self, f: &mut fmt::Formatter<W>) -> fmt::Result {
+        self.0.fmt(f)
     }
 }

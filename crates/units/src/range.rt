@@ -29,12 +29,24 @@ impl Range {
     pub fn holds(self, z: i64) -> bool
         ensures { result ≡ inside self z }
     {
-        self.low <= z && z <= self.high
+        self.holds_wide(z as i128)
+    }
+
+    // The same of a wide number, such as a sum of money.
+    pub(crate) fn holds_wide(self, z: i128) -> bool
+        ensures { result ≡ inside self z }
+    {
+        self.low as i128 <= z && z <= self.high as i128
     }
 }
 
 // The farthest from zero that a balance or the pending sum may lie, in millicents.
 pub const BALANCE_LIMIT: i128 = 100_000_000_000_000_000;
+// A balance and the pending sum.
+pub const BALANCE: Range = Range {
+    low: -BALANCE_LIMIT as i64,
+    high: BALANCE_LIMIT as i64,
+};
 
 // How many accounts a pool has; accounts and participants are numbered from 1.
 pub const ACCOUNTS: usize = 96;

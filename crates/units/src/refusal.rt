@@ -1,48 +1,44 @@
 // Why a call is refused. Each case has its number, which is what a clerk is answered.
-ghost use Rattle.std.specs.Prelude.{◌≡◌};
+ghost use Rattle.std.specs.Prelude.{◌≡◌, Some};
+ghost use Rattle.std.specs.Fmt.{decimal};
 ghost use Rattle.units.specs.Refusals.{refusal_number};
+
+use std::fmt;
 
 #[derive(Clone, Copy, PartialEq, Eq, Debug)]
 pub enum Refusal {
-    OutOfRange,
-    SameParty,
-    NotAfterLatest,
-    NotOpen,
-    NotThisStatement,
-    StampBeforeLast,
-    WrongPhase,
-    WrongWindow,
-    NothingToCorrect,
-    RegisterFull,
-    TooFewLines,
-    VestingWithoutFacility,
-    NoLoadForUplift,
-    UpliftBeyondLimit,
-    BalanceBeyondLimit,
-    TooFewPlaces,
+    OutOfRange = 1,
+    SameParty = 2,
+    NotAfterLatest = 3,
+    NotOpen = 4,
+    NotThisStatement = 5,
+    StampBeforeLast = 6,
+    WrongPhase = 7,
+    WrongWindow = 8,
+    NothingToCorrect = 9,
+    RegisterFull = 10,
+    TooFewLines = 11,
+    VestingWithoutFacility = 12,
+    NoLoadForUplift = 13,
+    UpliftBeyondLimit = 14,
+    BalanceBeyondLimit = 15,
+    TooFewPlaces = 16,
 }
 
 impl Refusal {
+    // The number of the case; each such enum has its own, since no generic function can cast one.
     pub fn number(self) -> u8
         ensures { result ≡ refusal_number self }
     {
-        match self {
-            Refusal::OutOfRange => 1,
-            Refusal::SameParty => 2,
-            Refusal::NotAfterLatest => 3,
-            Refusal::NotOpen => 4,
-            Refusal::NotThisStatement => 5,
-            Refusal::StampBeforeLast => 6,
-            Refusal::WrongPhase => 7,
-            Refusal::WrongWindow => 8,
-            Refusal::NothingToCorrect => 9,
-            Refusal::RegisterFull => 10,
-            Refusal::TooFewLines => 11,
-            Refusal::VestingWithoutFacility => 12,
-            Refusal::NoLoadForUplift => 13,
-            Refusal::UpliftBeyondLimit => 14,
-            Refusal::BalanceBeyondLimit => 15,
-            Refusal::TooFewPlaces => 16,
-        }
+        self as u8
+    }
+}
+
+// A refusal is written as its number.
+impl fmt::Display for Refusal {
+    ghost output = { λ e. Some (decimal (refusal_number e)) };
+
+    fn fmt<W: fmt::Write>(&self, f: &mut fmt::Formatter<W>) -> fmt::Result {
+        self.number().fmt(f)
     }
 }

@@ -1,7 +1,7 @@
 // When something was handed in: business days after the trading day, and the minute of that day.
 ghost use Rattle.std.specs.Prelude.{◌≤◌};
 
-#[derive(Clone, Copy, PartialEq, Eq, Debug)]
+#[derive(Clone, Copy, PartialEq, Eq, PartialOrd, Ord, Debug)]
 pub struct Stamp {
     pub days: u16,
     pub minute: u16,

@@ -9,26 +9,21 @@ use crate::range::{DAYS, MINUTE};
 use crate::refusal::Refusal;
 use crate::stamp::Stamp;
 
-#[derive(Clone, Copy, PartialEq, Eq, Debug)]
+#[derive(Clone, Copy, PartialEq, Eq, PartialOrd, Ord, Debug)]
 pub enum Window {
-    First,
-    Second,
-    Third,
-    Fourth,
-    Fifth,
+    First = 1,
+    Second = 2,
+    Third = 3,
+    Fourth = 4,
+    Fifth = 5,
 }
 
 impl Window {
+    // The number of the case; each such enum has its own, since no generic function can cast one.
     pub fn number(self) -> u8
         ensures { result ≡ window_number self }
     {
-        match self {
-            Window::First => 1,
-            Window::Second => 2,
-            Window::Third => 3,
-            Window::Fourth => 4,
-            Window::Fifth => 5,
-        }
+        self as u8
     }
 }
 
@@ -46,11 +41,7 @@ impl Stamp {
     pub fn is_before(self, other: Stamp) -> bool
         ensures { result ≡ earlier self.days self.minute other.days other.minute }
     {
-        if self.days == other.days {
-            self.minute < other.minute
-        } else {
-            self.days < other.days
-        }
+        self < other
     }
 
     pub fn window(self) -> Window
@@ -73,10 +64,6 @@ impl Stamp {
     fn is_by_five(self, day: u16) -> bool
         ensures { result ≡ by_five self.days self.minute day }
     {
-        if self.days == day {
-            self.minute <= 1020
-        } else {
-            self.days < day
-        }
+        (self.days, self.minute) <= (day, 1020)
     }
 }

@@ -1,31 +1,22 @@
-use Rattle.std.proofs.Common.{◌≡◌, ◌+◌, [], ◌∷◌, drop, Some, None, refl, ap, ◌∙◌, SFits, rules}
-use mir.Syntax.{w128}
-use Rattle.std.proofs.lemmas.Int.{to_z-of_z}
-use Rattle.std.proofs.lemmas.List.{drop_all}
-use Rattle.book.specs.Lines.{balance_in}
-use Rattle.book.proofs.Used.{next_line, last_more, last_stops}
+use Rattle.std.proofs.Common.{rules, tests, ◌≡◌, is_some, None, eqb, ap, sym, ◌∙◌}
+use Rattle.std.proofs.lemmas.Iterator.{YieldsList-from_slice}
+use Rattle.std.proofs.lemmas.Iterator.Consumers.{YieldsList-at, YieldsList-from_filter, YieldsList-from_filter_map}
+use Rattle.std.proofs.lemmas.Iterator.Search.{YieldsList-from_take_while}
+use Rattle.std.proofs.lemmas.Grind.{common_steps}
+use Rattle.std.specs.List.{last_or}
+use Rattle.book.proofs.Used.{after_of, said, last_said, items_given}
 use Rattle.book.proofs.lines.last_balance.Goals as goal
-
-pub returns-in_default : goal.returns-in_default
-returns-in_default c =
-    let ls = c.args.lines.now in
-    let i = c.loop-line.line-index in
-    let here : drop i ls ≡ None ∷ drop (i + 1) ls = next_line ls i c.line-item.result c.loop-line-test.true c.line-item.is ∙ ap (λ x. x ∷ drop (i + 1) ls) c.in_default.is in
-    last_stops _ (balance_in ls c.args.account) c.args.account (drop i ls) (None ∷ drop (i + 1) ls) here refl c.loop-line.invariant
-
-pub loop-line-preserved : goal.loop-line-preserved
-loop-line-preserved c =
-    let ls = c.args.lines.now in
-    let i = c.loop-line.line-index in
-    let a = c.args.account in
-    let e = c.in-Some.entry in
-    let here : drop i ls ≡ Some e ∷ drop (i + 1) ls = next_line ls i c.line-item.result c.loop-line-test.true c.line-item.is ∙ ap (λ x. x ∷ drop (i + 1) ls) c.in-Some.is in
-    let r = c.after_line-balance.result in
-    let fits : SFits w128 r = search rules in
-    last_more _ _ (balance_in ls a) a ls i e here (to_z-of_z w128 r fits ∙ c.after_line-balance.ensures) c.loop-line.invariant
 
 pub returns : goal.returns
 returns c =
-    let ls = c.args.lines.now in
-    let i = c.loop-line.line-index in
-    last_stops _ (balance_in ls c.args.account) c.args.account (drop i ls) [] (drop_all i ls c.loop-line-test.false) refl c.loop-line.invariant
+    let ran = c.last.ensures.ran in
+    let a = c.args.account in
+    let same : ran.0 ≡ said c.args.lines.now a = items_given ran.0 ran.1 (
+    YieldsList-from_filter _ (λ e. eqb e.account a) (YieldsList-at c.filter.ensures.source (
+    YieldsList-from_filter_map _ (λ o. o) (YieldsList-at c.filter_map.ensures.source (
+    YieldsList-from_take_while _ is_some (YieldsList-at c.take_while.ensures.source (YieldsList-from_slice c.args.lines.now cc)) c.take_while.ensures.closure c.take_while.ensures.done (λ x b q k. search (rules, tests))
+    )) c.filter_map.ensures.closure (λ x r q k. search (rules, tests))
+    )) c.filter.ensures.closure (λ x b q k. search (rules, tests))
+    ) in
+    let shown : c.map_or.result.0 ≡ after_of c.last.result = search (rules, tests, common_steps) in
+    shown ∙ ap after_of (ran.2 ∙ ap (last_or None) same) ∙ sym (last_said None c.args.lines.now a)

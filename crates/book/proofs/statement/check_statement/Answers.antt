@@ -2,22 +2,17 @@ use Rattle.std.proofs.Common.{◌≡◌, ◌+◌, ◌+ℤ◌, sym, ap, ◌∙◌
 use mir.Syntax.{w128}
 use Rattle.std.proofs.lemmas.Result.{err_from_is_err_and}
 use Rattle.std.proofs.lemmas.Int.{ints}
-use Rattle.units.specs.Ranges.{accounts, Around}
+use Rattle.units.specs.Ranges.{Around}
 use Rattle.units.specs.Refusals.{refusal_number}
 use Rattle.book.specs.Meaning.{balance_limit}
 use Rattle.book.specs.Statement.{amount_of, is_posted}
 use Rattle.book.proofs.Counts.{count_none, count_at_most}
-use Rattle.book.proofs.Posting.{shown_refused}
-use Rattle.book.proofs.Statements.{amount_at, none_beyond, one_beyond, counted, passed_over, refuses_beyond, refuses_places, settles}
+use Rattle.book.proofs.Statements.{amount_at, none_beyond, one_beyond, counted, passed_over, refuses_beyond}
 use Rattle.book.proofs.statement.check_statement.Goals as goal
 use Rattle.book.proofs.statement.check_statement.Goals.{then-amount-ne0, else-amount-ne0}
 
 pub loop-index-init : goal.loop-index-init
 loop-index-init g c = search (rules, count_none)
-
-pub returns-in_err-balance : goal.returns-in_err-balance
-returns-in_err-balance g c =
-    absurd (shown_refused (g.B.Book.held c.args.book.now) (c.loop-index.index + 1) c.in_err-balance.field-0.0 c.in_err-balance.ensures (omega arith, omega arith))
 
 pub returns-in_err-raised : goal.returns-in_err-raised
 returns-in_err-raised g c =
@@ -45,13 +40,3 @@ loop-index-preserved g c =
         | else-amount-ne0 w ↦ omega (arith, w.needed-is, c.loop-index.invariant.1, passed_over amount i (omega (arith, ints, amount_at c.args.amounts.now i, w.if-amount-ne0.false)))
       ],
     )
-
-pub returns-then-places-needed : goal.returns-then-places-needed
-returns-then-places-needed g c =
-    let end : c.loop-index.index ≡ accounts = omega arith in
-    sym (refuses_places (g.B.Book.held c.args.book.now) (g.B.Book.room c.args.book.now) (amount_of c.args.amounts.now) (rw end at c.loop-index.invariant.0) (omega (arith, rw end at c.loop-index.invariant.1)))
-
-pub returns : goal.returns
-returns g c =
-    let end : c.loop-index.index ≡ accounts = omega arith in
-    sym (settles (g.B.Book.held c.args.book.now) (g.B.Book.room c.args.book.now) (amount_of c.args.amounts.now) (rw end at c.loop-index.invariant.0) (omega (arith, rw end at c.loop-index.invariant.1)))

@@ -32,13 +32,12 @@ returns c =
     let sum : c.in_ok-after.after.0 ≡ balance_in ls a +ℤ c.args.amount.0 = omega (arith, ints, shown, c.in_ok-after.ensures.0) in
     let fine : Around balance_limit (balance_in ls a +ℤ c.args.amount.0) = omega (arith, ints, sum, c.in_ok-after.ensures.1) in
     let free : 0 < free_lines ls = omega (arith, s.counted, c.if-self.false) in
-    let line = fill_line ls s.used _ s.counted s.tidy c.if-self.false c.args.amount.0 refl sum in
+    let taken = fill_line ls s.used _ s.counted s.tidy c.if-self.false c.args.amount.0 refl sum in
     record {
       meaning = record {
         answer = sym (accepts (balance_in ls) (free_lines ls) a c.args.amount.0 known fine free);
         after = fill_raises ls s.used _ s.counted s.tidy c.if-self.false c.args.amount.0 sum;
       };
       conditions = λ i h. h;
-      line = line;
-      taken = line;
+      taken = taken;
     }
