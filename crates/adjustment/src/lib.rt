@@ -3,6 +3,7 @@
 
 mod adjust;
 mod moved;
+mod movements;
 
 pub use adjust::adjustments;
 pub use moved::Adjustments;

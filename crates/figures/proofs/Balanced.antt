@@ -1,9 +1,9 @@
 -- One account that takes the other side of all others.
-use Rattle.std.proofs.Common.{◌≡◌, ℕ, zero, suc, ◌+◌, ◌-◌, ◌<◌, ◌≤◌, Bool, true, false, cond, eqb, ◌⊎◌, List, length, get_or, set, replicate, ℤ, pos, ◌+ℤ◌, ◌-ℤ◌, neg_ℤ, sym, refl, ap, ◌∙◌, inl, inr, arith, get_or-set_other, get_or-set_same}
+use Rattle.std.proofs.Common.{◌≡◌, ℕ, zero, suc, ◌-◌, ◌<◌, ◌≤◌, Bool, true, false, cond, eqb, List, length, get_or, set, replicate, ℤ, pos, ◌+ℤ◌, ◌-ℤ◌, neg_ℤ, sym, refl, ap, ◌∙◌, arith, get_or-set_other, get_or-set_same}
 use lib.IntN.{+ℤ_idr}
 use Rattle.std.proofs.lemmas.List.{get_or-replicate}
 use Rattle.std.proofs.lemmas.Int.{ints}
-use Rattle.std.proofs.lemmas.Bool.{cases_eq, eqb-true, eqb-false}
+use Rattle.std.proofs.lemmas.Bool.{eqb-true, eqb-false}
 use Rattle.units.specs.Ranges.{Account, accounts}
 use Rattle.units.specs.declared.quantity.Money.{Money}
 use Rattle.formulas.specs.Figures.{balanced}
@@ -33,15 +33,6 @@ amount_none (suc k) (low, high) = ap (λ (m : Money). m.0) (get_or-replicate acc
 -- the amounts of the accounts 1 to n are f's
 abbrev pub Filled : (ℕ → ℤ) → List Money → ℕ → Type 0
 Filled f xs n = (a : ℕ) → 1 ≤ a → a ≤ n → amount_at xs a ≡ f a
-
--- one account's amount more
-pub filled_more : (f : ℕ → ℤ) (xs : List Money) (n : ℕ) (v : ℤ) → n < length xs → Filled f xs n → v ≡ f (suc n) → Filled f (set xs n (record { 0 = v })) (n + 1)
-filled_more f xs n v lt before e zero low high = absurd (omega arith)
-filled_more f xs n v lt before e (suc k) low high = by (cases_eq k n)
-  where
-    by : (k ≡ n) ⊎ (k ≡ n → ⊥) → amount_at (set xs n (record { 0 = v })) (suc k) ≡ f (suc k)
-    by (inl same) = ap (λ j. (get_or (set xs n (record { 0 = v })) j (record { 0 = pos 0 })).0) same ∙ ap (λ (m : Money). m.0) (get_or-set_same xs n _ _ lt) ∙ e ∙ ap (λ j. f (suc j)) (sym same)
-    by (inr apart) = ap (λ (m : Money). m.0) (get_or-set_other xs n k _ _ apart) ∙ before (suc k) low (omega arith)
 
 -- an amount that rose at one account
 pub credited : (xs : List Money) (x : ℕ) (by v : ℤ) → Account x → length xs ≡ accounts → v ≡ amount_at xs (suc (x - 1)) +ℤ by

@@ -1,3 +1,4 @@
 pub mod Balanced
 pub mod Gathered
 pub mod Written
+pub mod Placed

@@ -9,20 +9,20 @@ use Rattle.units.specs.Ranges.{Around, Within, accounts}
 use Rattle.formulas.specs.Basis.{Basis, of_load}
 use Rattle.formulas.specs.Figures.{bsc_of, fee_of, gesc_of, heua_of, heuc_of, lesd_of, nasc_of, vcsc_of, weq_of, borne, total_load}
 use Rattle.figures.specs.Meaning.{amount_at, basis_of, withdrawal_of}
-use Rattle.figures.specs.Settled.{LineIs, SumsAre}
+use Rattle.figures.specs.Settled.{LineIs}
 use Rattle.formulas.specs.Sums.{sum}
 use Rattle.figures.specs.Working.{nothing_injected}
 use Rattle.records.specs.declared.inputs.Inputs.{Inputs}
 use Rattle.figures.specs.declared.line.Line.{Line}
-use Rattle.records.specs.declared.entries.Load.{Load}
-use Rattle.figures.specs.declared.worked.Sums.{Sums}
+use Rattle.records.specs.declared.entries.LoadWithin.{LoadWithin}
+use Rattle.figures.specs.declared.sums.Sums.{Sums}
 use Rattle.formulas.proofs.Bounds.{bsc_around, fee_around, gesc_around, heuc_around, lesd_around, nasc_around, vcsc_around, weq_up_to, borne_upto_around, loads_up_to, loads_within}
 use Rattle.figures.proofs.Gathered.{weq_at, inputs_in_ranges, total_gesc}
 use Rattle.formulas.proofs.Shares.{share_is}
 use Rattle.formulas.proofs.Steps.{sum_next}
 
 -- the load at an account's place, whatever a read past the end would give
-pub drawn_at : (i : Inputs) (k : ℕ) (o : Option Load) (w : ℤ) → k < length i.loads → w ≡ of_load (λ l. l.weq) (option_map withdrawal_of (get_or i.loads k o)) → w ≡ weq_of (basis_of i) (suc k)
+pub drawn_at : (i : Inputs) (k : ℕ) (o : Option (LoadWithin 0)) (w : ℤ) → k < length i.loads → w ≡ of_load (λ l. l.weq) (option_map withdrawal_of (get_or i.loads k o)) → w ≡ weq_of (basis_of i) (suc k)
 drawn_at i k o w lt e = e ∙ ap (λ l. of_load (λ l. l.weq) (option_map withdrawal_of l)) (get_or_default i.loads k o None lt) ∙ weq_at i k
 
 -- what a line is written from
@@ -35,16 +35,16 @@ pub record Six (i : Basis) (a : ℕ) (g l b v f h : ℤ) : Type 0 where
   pub heuc : h ≡ heuc_of i a
 
 -- the figures at an account's place, as the code holds them
-pub six_at : (i : Inputs) (s : Sums) (k : ℕ) (o : Option Load) (w l h : ℤ) → k < accounts → k < length i.loads → SumsAre (basis_of i) s
-    → w ≡ of_load (λ r. r.weq) (option_map withdrawal_of (get_or i.loads k o)) → l ≡ i.usep.0 *ℤ w → h ≡ heuc_of (basis_of i) (suc k)
-    → Six (basis_of i) (suc k) (get_or s.injected k nothing_injected).gesc.0 l (amount_at s.contracts (suc k)) (amount_at s.vesting (suc k)) (amount_at s.fees (suc k)) h
+pub six_at : (s : Sums) (k : ℕ) (o : Option (LoadWithin 0)) (w l h : ℤ) → k < accounts → k < length s.injections.inputs.now.loads
+    → w ≡ of_load (λ r. r.weq) (option_map withdrawal_of (get_or s.injections.inputs.now.loads k o)) → l ≡ s.injections.inputs.now.terms.usep.0 *ℤ w → h ≡ heuc_of (basis_of s.injections.inputs.now) (suc k)
+    → Six (basis_of s.injections.inputs.now) (suc k) (get_or s.injections.injected k nothing_injected).gesc.0 l (amount_at s.contracts (suc k)) (amount_at s.vesting (suc k)) (amount_at s.fees (suc k)) h
 unfolding lesd_of
-six_at i s k o w l h lt within ok drawn paid share = record {
-  gesc = total_gesc _ _ _ (ok.injected k lt);
-  lesd = paid ∙ ap (λ z. i.usep.0 *ℤ z) (drawn_at i k o w within drawn);
-  bsc = ok.contracts (suc k) (omega arith);
-  vcsc = ok.vesting (suc k) (omega arith);
-  fee = ok.fees (suc k) (omega arith);
+six_at s k o w l h lt within drawn paid share = record {
+  gesc = total_gesc _ _ _ (s.injections.totalled k lt);
+  lesd = paid ∙ ap (λ z. s.injections.inputs.now.terms.usep.0 *ℤ z) (drawn_at s.injections.inputs.now k o w within drawn);
+  bsc = s.contracts_ok (suc k) (omega arith);
+  vcsc = s.vesting_ok (suc k) (omega arith);
+  fee = s.fees_ok (suc k) (omega arith);
   heuc = share;
 }
 

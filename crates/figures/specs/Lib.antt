@@ -1,3 +1,4 @@
+pub mod Line
 pub mod Meaning
 pub mod Settled
 pub mod Working

@@ -1,28 +1,17 @@
 -- What a settled half hour holds, as an equation for each figure.
 use Rattle.std.specs.Prelude.{◌≡◌, ℕ, suc, ◌<◌, List, pos, slice_index_or}
-use Rattle.units.specs.Ranges.{Account, accounts}
+use Rattle.units.specs.Ranges.{accounts}
 use Rattle.formulas.specs.Basis.{Basis}
 use Rattle.formulas.specs.Figures.{gesc_of, lesd_of, bsc_of, vcsc_of, fee_of, heua_of, heuc_of, heur_of, nasc_of, total_load}
-use Rattle.figures.specs.Meaning.{amount_at}
-use Rattle.figures.specs.Working.{AllTotalled}
 use Rattle.figures.specs.declared.line.Line.{Line}
 use Rattle.figures.specs.declared.uplift.Uplift.{Uplift}
 use Rattle.figures.specs.declared.worked.Figures.{Figures}
-use Rattle.figures.specs.declared.worked.Sums.{Sums}
 
 -- the uplift is that of the half hour
 pub record UpliftIs (i : Basis) (u : Uplift) : Type 0 where
   pub amount : u.amount.0 ≡ heua_of i
   pub load : u.load.0 ≡ pos (total_load i)
   pub rate : u.rate.0 ≡ heur_of i
-
--- what the lines are written from is that of the half hour
-pub record SumsAre (i : Basis) (s : Sums) : Type 0 where
-  pub injected : AllTotalled i s.injected
-  pub contracts : (a : ℕ) → Account a → amount_at s.contracts a ≡ bsc_of i a
-  pub vesting : (a : ℕ) → Account a → amount_at s.vesting a ≡ vcsc_of i a
-  pub fees : (a : ℕ) → Account a → amount_at s.fees a ≡ fee_of i a
-  pub uplift : UpliftIs i s.uplift
 
 -- the line holds account a and its figures
 pub record LineIs (i : Basis) (a : ℕ) (l : Line) : Type 0 where

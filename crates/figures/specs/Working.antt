@@ -2,14 +2,14 @@
 use Rattle.std.specs.Prelude.{◌≡◌, ℕ, suc, ◌<◌, ◌≤◌, cond, List, ℤ, pos, ◌+ℤ◌, ◌*ℤ◌, ◌≤ℤ◌, Option, ◌==◌, slice_index_or}
 use Rattle.units.specs.Division.{nearest}
 use Rattle.units.specs.Ranges.{Around, accounts}
-use Rattle.formulas.specs.Basis.{Basis, Injection, facilities, of_account}
+use Rattle.formulas.specs.Basis.{Injection, facilities, of_account}
 use Rattle.formulas.specs.Figures.{at_least_0, whole}
 use Rattle.formulas.specs.Sums.{sum}
 use Rattle.figures.specs.declared.injected.Injected.{Injected}
 
 -- f summed over those of the facilities 1 to n that are account a's
-abbrev pub upto : Basis → ℕ → ℕ → (Injection → ℤ) → ℤ
-upto i n a f = sum n (λ m. of_account a f (i.facility m))
+abbrev pub upto : (ℕ → Option Injection) → ℕ → ℕ → (Injection → ℤ) → ℤ
+upto facility n a f = sum n (λ m. of_account a f (facility m))
 
 -- nothing yet
 abbrev pub nothing_injected : Injected
@@ -25,17 +25,17 @@ pub record Grown (a : ℕ) (o : Option Injection) (x y : Injected) : Type 0 wher
   pub weighted : y.weighted.0 ≡ x.weighted.0 +ℤ of_account a (λ r. r.mep *ℤ at_least_0 r.ieq) o
 
 -- the totals x are those of account a's facilities among 1 to n
-pub record Totalled (i : Basis) (n a : ℕ) (x : Injected) : Type 0 where
-  pub count : pos x.count ≡ upto i n a (λ r. pos 1)
-  pub ieq : x.ieq.0 ≡ upto i n a (λ r. r.ieq)
-  pub injected : x.injected.0 ≡ upto i n a (λ r. at_least_0 r.ieq)
-  pub prices : x.prices.0 ≡ upto i n a (λ r. r.mep)
-  pub gesc : x.gesc.0 ≡ upto i n a (λ r. r.mep *ℤ r.ieq)
-  pub weighted : x.weighted.0 ≡ upto i n a (λ r. r.mep *ℤ at_least_0 r.ieq)
+pub record Totalled (facility : ℕ → Option Injection) (n a : ℕ) (x : Injected) : Type 0 where
+  pub count : pos x.count ≡ upto facility n a (λ r. pos 1)
+  pub ieq : x.ieq.0 ≡ upto facility n a (λ r. r.ieq)
+  pub injected : x.injected.0 ≡ upto facility n a (λ r. at_least_0 r.ieq)
+  pub prices : x.prices.0 ≡ upto facility n a (λ r. r.mep)
+  pub gesc : x.gesc.0 ≡ upto facility n a (λ r. r.mep *ℤ r.ieq)
+  pub weighted : x.weighted.0 ≡ upto facility n a (λ r. r.mep *ℤ at_least_0 r.ieq)
 
 -- the totals xs, by account, are those of all facilities
-abbrev pub AllTotalled : Basis → List Injected → Type 0
-AllTotalled i xs = (k : ℕ) → k < accounts → Totalled i facilities (suc k) (slice_index_or xs k nothing_injected)
+abbrev pub AllTotalled : (ℕ → Option Injection) → List Injected → Type 0
+AllTotalled facility xs = (k : ℕ) → k < accounts → Totalled facility facilities (suc k) (slice_index_or xs k nothing_injected)
 
 -- the totals leave room for one facility more
 pub record Roomy (x : Injected) : Type 0 where

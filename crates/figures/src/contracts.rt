@@ -2,25 +2,13 @@
 ghost use Rattle.std.specs.Prelude.{◌≡◌, ℕ, ◌≤◌, ℤ, pos, ◌+ℤ◌, if◌then◌else◌, nat_eq};
 ghost use Rattle.std.specs.Option.{option_map};
 ghost use Rattle.units.specs.Ranges.{Account, Around, Within};
-ghost use Rattle.formulas.specs.Basis.{of_load};
 ghost use Rattle.formulas.specs.Figures.{beq_of, bsc_of, from_contract, part};
-ghost use Rattle.figures.specs.Meaning.{amount_at, basis_of, bilateral_of, withdrawal_of};
-ghost use Rattle.figures.specs.Working.{AllTotalled};
+ghost use Rattle.figures.specs.Meaning.{AmountsAre, amount_at, basis_of, bilateral_of};
 
-use crate::injected::{Injected, positive};
-use records::entries::{Contract, Load};
-use records::inputs::Inputs;
-use units::{ACCOUNTS, CONTRACTS, Energy, Money, div_floor};
-
-// The withdrawn energy of a load, none where there is no load.
-pub(crate) fn withdrawn(load: &Option<Load>) -> Energy
-    ensures { result.0 ≡ of_load (λ l. l.weq) (option_map withdrawal_of load.now) }
-{
-    match load {
-        Some(l) => l.weq,
-        None => Energy(0),
-    }
-}
+use crate::injected::positive;
+use crate::injections::Injections;
+use records::{Contract, withdrawn};
+use units::{ACCOUNTS, Energy, Money, div_floor};
 
 // That many hundredths of a percent of a quantity, rounded down.
 fn hundredths_of(hundredths: u16, quantity: Energy) -> Energy
@@ -32,20 +20,6 @@ fn hundredths_of(hundredths: u16, quantity: Energy) -> Energy
         Some(whole) => Energy(whole as i64),
         None => Energy(0),
     }
-}
-
-// The energy that a contract moves (BEQ).
-fn contracted(inputs: &Inputs, injected: &[Injected; ACCOUNTS], contract: &Contract) -> Energy
-    requires { AllTotalled (basis_of inputs.now) injected.now }
-    ensures { result.0 ≡ beq_of (basis_of inputs.now) (bilateral_of contract.now) }
-{
-    let load = &inputs.loads[contract.buyer as usize - 1];
-    let bought = hundredths_of(contract.bwf, withdrawn(load));
-    let sold = hundredths_of(
-        contract.bif,
-        positive(injected[contract.seller as usize - 1].ieq),
-    );
-    sum_of(contract.baq, bought, sold)
 }
 
 // Three quantities together.
@@ -67,33 +41,41 @@ fn credit(amounts: &mut [Money; ACCOUNTS], account: u16, by: Money)
     amounts[at] = Money(amounts[at].0 + by.0);
 }
 
-// Adds what one contract, where there is one, moves between its parties: the buyer gains, and the seller loses.
-fn add_contract(
-    inputs: &Inputs,
-    injected: &[Injected; ACCOUNTS],
-    amounts: &mut [Money; ACCOUNTS],
-    contract: &Option<Contract>,
-)
-    requires totalled { AllTotalled (basis_of inputs.now) injected.now }
-    requires before { (a : ℕ) → Account a → Around 100000000000000000 (amount_at amounts.old a) }
-    ensures { (a : ℕ) → Account a → amount_at amounts.new a ≡ amount_at amounts.old a +ℤ from_contract (basis_of inputs.now) a (option_map bilateral_of contract.now) }
-{
-    if let Some(c) = contract {
-        let amount = contracted(inputs, injected, c).at(inputs.usep);
-        credit(amounts, c.buyer, amount);
-        credit(amounts, c.seller, Money(-amount.0));
+impl Injections<'_> {
+    // The energy that a contract moves (BEQ).
+    fn contracted(&self, contract: &Contract) -> Energy
+        ensures { result.0 ≡ beq_of (basis_of self.now.inputs.now) (bilateral_of contract.now) }
+    {
+        let inputs = self.inputs;
+        let load = &inputs.loads[contract.buyer as usize - 1];
+        let bought = hundredths_of(contract.bwf, withdrawn(load));
+        let sold = hundredths_of(
+            contract.bif,
+            positive(self.injected[contract.seller as usize - 1].ieq),
+        );
+        sum_of(contract.baq, bought, sold)
     }
-}
 
-// What every account has from all contracts (BSC).
-pub(crate) fn contract_sums(inputs: &Inputs, injected: &[Injected; ACCOUNTS]) -> [Money; ACCOUNTS]
-    requires { AllTotalled (basis_of inputs.now) injected.now }
-    ensures { (a : ℕ) → Account a → amount_at result a ≡ bsc_of (basis_of inputs.now) a }
-{
-    let mut amounts = [Money(0); ACCOUNTS];
-    for n in 0..CONTRACTS {
-        let contract = &inputs.contracts[n];
-        add_contract(inputs, injected, &mut amounts, contract);
+    // Adds what one contract, where there is one, moves between its parties: the buyer gains, and the seller loses.
+    fn add_contract(&self, amounts: &mut [Money; ACCOUNTS], contract: &Option<Contract>)
+        requires { (a : ℕ) → Account a → Around 100000000000000000 (amount_at amounts.old a) }
+        ensures { (a : ℕ) → Account a → amount_at amounts.new a ≡ amount_at amounts.old a +ℤ from_contract (basis_of self.now.inputs.now) a (option_map bilateral_of contract.now) }
+    {
+        if let Some(c) = contract {
+            let amount = self.contracted(c).at(self.inputs.terms.usep);
+            credit(amounts, c.buyer, amount);
+            credit(amounts, c.seller, Money(-amount.0));
+        }
     }
-    amounts
+
+    // What every account has from all contracts (BSC).
+    pub(crate) fn contract_sums(&self) -> [Money; ACCOUNTS]
+        ensures { AmountsAre result (bsc_of (basis_of self.now.inputs.now)) }
+    {
+        let mut amounts = [Money(0); ACCOUNTS];
+        for contract in &self.inputs.contracts {
+            self.add_contract(&mut amounts, contract);
+        }
+        amounts
+    }
 }

@@ -1,32 +1,33 @@
 // What one account's facilities come to, totalled in one pass over all facilities.
-ghost use Rattle.std.specs.Prelude.{◌≡◌, ℕ, suc, ◌<◌, ℤ, pos, Some, slice_index_or};
+ghost use Rattle.std.specs.Prelude.{◌≡◌, ℕ, suc, ◌<◌, Some, slice_index_or};
 ghost use Rattle.std.specs.Option.{option_map};
 ghost use Rattle.units.specs.Ranges.{accounts};
 ghost use Rattle.formulas.specs.Figures.{at_least_0};
-ghost use Rattle.figures.specs.Meaning.{basis_of, injection_of};
+ghost use Rattle.figures.specs.Meaning.{injection_of, numbered};
 ghost use Rattle.figures.specs.Working.{AllTotalled, Grown, Roomy, nothing_injected};
 
-use records::entries::Facility;
-use records::inputs::Inputs;
+use crate::injections::Injections;
+use records::{FacilityWithin, Inputs};
 use units::{ACCOUNTS, Energy, FACILITIES, Money, Price};
 
+// What one account's facilities come to: of what was read, or of how far it moved.
 #[derive(Clone, Copy)]
-pub(crate) struct Injected {
+pub struct Injected {
     // how many facilities
-    pub(crate) count: u16,
+    pub count: u16,
     // their injected energy, and the same without those that drew energy
-    pub(crate) ieq: Energy,
-    pub(crate) injected: Energy,
+    pub ieq: Energy,
+    pub injected: Energy,
     // their prices, for the plain average
-    pub(crate) prices: Price,
+    pub prices: Price,
     // injected energy at each facility's price, and the same without those that drew energy
-    pub(crate) gesc: Money,
-    pub(crate) weighted: Money,
+    pub gesc: Money,
+    pub weighted: Money,
 }
 
 impl Injected {
     // One facility more.
-    fn with(self, f: &Facility) -> Injected
+    fn with<const FAR: u64>(self, f: &FacilityWithin<FAR>) -> Injected
         requires { Roomy self }
         ensures { Grown f.now.account (Some (injection_of f.now)) self result }
     {
@@ -46,11 +47,14 @@ impl Injected {
 pub(crate) fn positive(energy: Energy) -> Energy
     ensures { result.0 ≡ at_least_0 energy.0 }
 {
-    if energy.0 < 0 { Energy(0) } else { energy }
+    Energy(energy.0.max(0))
 }
 
 // Adds one facility, where there is one, to the totals of its account.
-fn add_facility(all: &mut [Injected; ACCOUNTS], facility: &Option<Facility>)
+fn add_facility<const FAR: u64>(
+    all: &mut [Injected; ACCOUNTS],
+    facility: &Option<FacilityWithin<FAR>>,
+)
     requires { (k : ℕ) → k < accounts → Roomy (slice_index_or all.old k nothing_injected) }
     ensures { (k : ℕ) → k < accounts → Grown (suc k) (option_map injection_of facility.now) (slice_index_or all.old k nothing_injected) (slice_index_or all.new k nothing_injected) }
 {
@@ -60,9 +64,11 @@ fn add_facility(all: &mut [Injected; ACCOUNTS], facility: &Option<Facility>)
     }
 }
 
-// The totals of every account's facilities.
-pub(crate) fn injections(inputs: &Inputs) -> [Injected; ACCOUNTS]
-    ensures { AllTotalled (basis_of inputs.now) result }
+// The totals of every account's facilities, by rising account.
+pub fn account_totals<const FAR: u64>(
+    facilities: &[Option<FacilityWithin<FAR>>; FACILITIES],
+) -> [Injected; ACCOUNTS]
+    ensures { AllTotalled (λ n. option_map injection_of (numbered facilities.now n)) result }
 {
     let nothing = Injected {
         count: 0,
@@ -73,9 +79,20 @@ pub(crate) fn injections(inputs: &Inputs) -> [Injected; ACCOUNTS]
         weighted: Money(0),
     };
     let mut all = [nothing; ACCOUNTS];
-    for n in 0..FACILITIES {
-        let facility = &inputs.facilities[n];
+    for facility in facilities {
         add_facility(&mut all, facility);
     }
     all
+}
+
+impl<'a> Injections<'a> {
+    // The inputs with the totals of every account's facilities.
+    pub(crate) fn of(inputs: &'a Inputs) -> Injections<'a>
+        ensures { result.inputs.now ≡ inputs.now }
+    {
+        Injections {
+            inputs,
+            injected: account_totals(&inputs.facilities),
+        }
+    }
 }

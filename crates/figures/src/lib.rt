@@ -5,12 +5,16 @@
 mod contracts;
 mod fees;
 mod injected;
+mod injections;
 pub mod line;
+mod sums;
 mod totals;
 pub mod uplift;
 mod vesting;
 pub mod worked;
 
+pub use injected::{Injected, account_totals};
 pub use line::Line;
+pub use totals::Amounts;
 pub use uplift::Uplift;
 pub use worked::{Figures, settle};

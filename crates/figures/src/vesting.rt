@@ -1,16 +1,17 @@
 // What every account has from vesting contracts.
-ghost use Rattle.std.specs.Prelude.{◌≡◌, ℕ, ◌≤◌, ℤ, pos, ◌+ℤ◌};
+ghost use Rattle.std.specs.Prelude.{◌≡◌, suc, ◌<◌, pos, ◌+ℤ◌};
 ghost use Rattle.std.specs.Option.{option_map};
 ghost use Rattle.units.specs.Division.{nearest};
-ghost use Rattle.units.specs.Ranges.{Account, Around};
+ghost use Rattle.units.specs.Ranges.{Around, accounts};
 ghost use Rattle.formulas.specs.Figures.{vcsc_of, from_vesting, own_vcsc_of};
-ghost use Rattle.figures.specs.Meaning.{amount_at, basis_of, tranche, vested_of};
-ghost use Rattle.figures.specs.Working.{AllTotalled, Priced, price_from};
+ghost use Rattle.figures.specs.Meaning.{AmountsAre, basis_of, tranche, vested_of};
+ghost use Rattle.figures.specs.Working.{Priced, price_from};
 
 use crate::injected::Injected;
+use crate::injections::Injections;
 use crate::totals::balance_out;
-use records::entries::Vesting;
-use records::inputs::{Inputs, Tranches};
+use records::{Tranches, Vesting};
+use std::array;
 use units::{ACCOUNTS, Money, Price, div_nearest};
 
 // A sum divided by its weight, to the nearest whole; 0 where there is no weight.
@@ -60,26 +61,32 @@ fn from_tranches(reference: Price, rows: &Tranches) -> Money
     Money(base.0 + first.0 + second.0)
 }
 
-// What every account's own tranches pay.
-fn own_vesting(inputs: &Inputs, injected: &[Injected; ACCOUNTS]) -> [Money; ACCOUNTS]
-    requires { AllTotalled (basis_of inputs.now) injected.now }
-    ensures { (a : ℕ) → Account a → amount_at result a ≡ own_vcsc_of (basis_of inputs.now) a }
-{
-    let mut amounts = [Money(0); ACCOUNTS];
-    for k in 0..ACCOUNTS {
-        let reference = reference_price(&injected[k]);
+impl Injections<'_> {
+    // What the own tranches of the account at place k pay. The place is a plain index, as `from_fn` hands it out.
+    fn own_vesting(&self, k: usize) -> Money
+        requires { k < accounts }
+        ensures { result.0 ≡ own_vcsc_of (basis_of self.now.inputs.now) (suc k) }
+    {
+        let injected = self.injected[k];
+        let reference = reference_price(&injected);
+        let inputs = self.inputs;
         let rows = &inputs.vestings[k];
-        amounts[k] = from_tranches(reference, rows);
+        from_tranches(reference, rows)
     }
-    amounts
-}
 
-// What every account has from vesting contracts (VCSC).
-pub(crate) fn vesting_sums(inputs: &Inputs, injected: &[Injected; ACCOUNTS]) -> [Money; ACCOUNTS]
-    requires { AllTotalled (basis_of inputs.now) injected.now }
-    ensures { (a : ℕ) → Account a → amount_at result a ≡ vcsc_of (basis_of inputs.now) a }
-{
-    let mut amounts = own_vesting(inputs, injected);
-    balance_out(&mut amounts, inputs.counterparty);
-    amounts
+    // What every account's own tranches pay.
+    fn own_vestings(&self) -> [Money; ACCOUNTS]
+        ensures { AmountsAre result (own_vcsc_of (basis_of self.now.inputs.now)) }
+    {
+        array::from_fn(|k| self.own_vesting(k))
+    }
+
+    // What every account has from vesting contracts (VCSC).
+    pub(crate) fn vesting_sums(&self) -> [Money; ACCOUNTS]
+        ensures { AmountsAre result (vcsc_of (basis_of self.now.inputs.now)) }
+    {
+        let mut amounts = self.own_vestings();
+        balance_out(&mut amounts, self.inputs.terms.counterparty);
+        amounts
+    }
 }

@@ -1,5 +1,5 @@
 // The figures of every account in one half hour, in one pass over its inputs.
-ghost use Rattle.std.specs.Prelude.{◌≡◌, ℕ, suc, ◌<◌, ◌≤◌, ◌||◌, List, ℤ, pos, ◌+ℤ◌, ◌-ℤ◌, is_some, IfOk};
+ghost use Rattle.std.specs.Prelude.{◌≡◌, suc, ◌<◌, ◌||◌, ℤ, ◌+ℤ◌, ◌-ℤ◌, is_some, IfOk};
 ghost use Rattle.units.specs.Checks.{first_met};
 ghost use Rattle.units.specs.Ranges.{Around, accounts};
 ghost use Rattle.units.specs.Refusals.{answer_number};
@@ -8,15 +8,13 @@ ghost use Rattle.formulas.specs.Figures.{heuc_of, settling_checks, unfounded};
 ghost use Rattle.formulas.specs.Laws.{Conserved, UpliftShared};
 ghost use Rattle.figures.specs.Meaning.{basis_of};
 ghost use Rattle.formulas.specs.Sums.{some_of};
-ghost use Rattle.figures.specs.Settled.{FiguresAre, LineIs, LinesAre, SumsAre};
+ghost use Rattle.figures.specs.Settled.{FiguresAre, LineIs, LinesAre};
 
-use crate::contracts::{contract_sums, withdrawn};
-use crate::fees::fee_sums;
-use crate::injected::{Injected, injections};
+use crate::injections::Injections;
 use crate::line::Line;
-use crate::uplift::{Uplift, borne_upto, uplift_of};
-use crate::vesting::vesting_sums;
-use records::inputs::{Inputs, Tranches};
+use crate::sums::Sums;
+use crate::uplift::Uplift;
+use records::{Inputs, Tranches, withdrawn};
 use units::range::UPLIFT;
 use units::{ACCOUNTS, Energy, Money, Refusal};
 
@@ -26,33 +24,6 @@ pub struct Figures {
     pub uplift: Uplift,
     // by rising account
     pub lines: [Line; ACCOUNTS],
-}
-
-// What the lines are written from, by account.
-#[derive(Clone, Copy)]
-pub(crate) struct Sums {
-    pub(crate) injected: [Injected; ACCOUNTS],
-    pub(crate) contracts: [Money; ACCOUNTS],
-    pub(crate) vesting: [Money; ACCOUNTS],
-    pub(crate) fees: [Money; ACCOUNTS],
-    pub(crate) uplift: Uplift,
-}
-
-fn sums_of(inputs: &Inputs) -> Sums
-    ensures { SumsAre (basis_of inputs.now) result }
-{
-    let injected = injections(inputs);
-    let contracts = contract_sums(inputs, &injected);
-    let vesting = vesting_sums(inputs, &injected);
-    let fees = fee_sums(inputs, &injected);
-    let uplift = uplift_of(inputs, &injected);
-    Sums {
-        injected,
-        contracts,
-        vesting,
-        fees,
-        uplift,
-    }
 }
 
 // The net of an account's figures.
@@ -68,64 +39,6 @@ fn net(gesc: Money, lesd: Money, bsc: Money, vcsc: Money, fee: Money, heuc: Mone
     gesc - lesd + bsc + vcsc - fee - heuc
 }
 
-// The line of the account at place k, which is account k + 1, with its share of the uplift.
-fn line_of(inputs: &Inputs, sums: &Sums, k: usize, heuc: Money) -> Line
-    requires place { k < accounts }
-    requires sums { SumsAre (basis_of inputs.now) sums.now }
-    requires share { heuc.0 ≡ heuc_of (basis_of inputs.now) (suc k) }
-    ensures { LineIs (basis_of inputs.now) (suc k) result }
-{
-    let load = &inputs.loads[k];
-    let lesd = withdrawn(load).at(inputs.usep);
-    let gesc = sums.injected[k].gesc;
-    let bsc = sums.contracts[k];
-    let vcsc = sums.vesting[k];
-    let fee = sums.fees[k];
-    let nasc = net(gesc, lesd, bsc, vcsc, fee, heuc);
-    Line {
-        account: k as u16 + 1,
-        gesc,
-        lesd,
-        bsc,
-        vcsc,
-        fee,
-        heuc,
-        nasc,
-    }
-}
-
-// A line of an account to which nothing has been worked out yet.
-fn blank() -> Line {
-    let nothing = Money(0);
-    Line {
-        account: 1,
-        gesc: nothing,
-        lesd: nothing,
-        bsc: nothing,
-        vcsc: nothing,
-        fee: nothing,
-        heuc: nothing,
-        nasc: nothing,
-    }
-}
-
-fn lines_of(inputs: &Inputs, sums: &Sums) -> [Line; ACCOUNTS]
-    requires { SumsAre (basis_of inputs.now) sums.now }
-    ensures { LinesAre (basis_of inputs.now) result }
-{
-    let mut lines = [blank(); ACCOUNTS];
-    let mut upto = 0;
-    let mut before = 0;
-    for k in 0..ACCOUNTS {
-        let load = &inputs.loads[k];
-        upto += withdrawn(load).0;
-        let bears = borne_upto(inputs, &sums.uplift, Energy(upto)).0;
-        lines[k] = line_of(inputs, sums, k, Money(bears - before));
-        before = bears;
-    }
-    lines
-}
-
 // Whether there is a vesting row.
 fn has_row(rows: &Tranches) -> bool
     ensures { result ≡ (is_some rows.now.base || is_some rows.now.first || is_some rows.now.second) }
@@ -133,43 +46,100 @@ fn has_row(rows: &Tranches) -> bool
     rows.base.is_some() || rows.first.is_some() || rows.second.is_some()
 }
 
-// Whether the account at place k has a vesting row, and no facility.
-fn is_unfounded(inputs: &Inputs, sums: &Sums, k: usize) -> bool
-    requires place { k < accounts }
-    requires sums { SumsAre (basis_of inputs.now) sums.now }
-    ensures { result ≡ unfounded (basis_of inputs.now) (suc k) }
-{
-    let rows = &inputs.vestings[k];
-    has_row(rows) && sums.injected[k].count == 0
-}
-
-// Whether some account has a vesting row, and no facility.
-fn some_unfounded(inputs: &Inputs, sums: &Sums) -> bool
-    requires { SumsAre (basis_of inputs.now) sums.now }
-    ensures { result ≡ some_of accounts (unfounded (basis_of inputs.now)) }
-{
-    for k in 0..ACCOUNTS {
-        if is_unfounded(inputs, sums, k) {
-            return true;
+impl<'a> Sums<'a> {
+    // What the lines of these inputs are written from.
+    fn of(inputs: &'a Inputs) -> Sums<'a>
+        ensures { result.injections.inputs.now ≡ inputs.now }
+    {
+        let injections = Injections::of(inputs);
+        let contracts = injections.contract_sums();
+        let vesting = injections.vesting_sums();
+        let fees = injections.fee_sums();
+        let uplift = injections.uplift();
+        Sums {
+            injections,
+            contracts,
+            vesting,
+            fees,
+            uplift,
         }
     }
-    false
-}
 
-// What keeps the half hour from being settled, the first that is met.
-fn check_settling(inputs: &Inputs, sums: &Sums) -> Result<(), Refusal>
-    requires { SumsAre (basis_of inputs.now) sums.now }
-    ensures { answer_number result ≡ first_met (settling_checks (basis_of inputs.now)) }
-{
-    let uplift = &sums.uplift;
-    if some_unfounded(inputs, sums) {
-        Err(Refusal::VestingWithoutFacility)
-    } else if uplift.load.0 == 0 && uplift.amount.0 != 0 {
-        Err(Refusal::NoLoadForUplift)
-    } else if !UPLIFT.holds(uplift.rate.0) {
-        Err(Refusal::UpliftBeyondLimit)
-    } else {
-        Ok(())
+    // The line of the account at place k, which is account k + 1, with its share of the uplift. The place is a plain index,
+    // as `enumerate` hands it out.
+    fn line(&self, k: usize, heuc: Money) -> Line
+        requires place { k < accounts }
+        requires share { heuc.0 ≡ heuc_of (basis_of self.now.injections.inputs.now) (suc k) }
+        ensures { LineIs (basis_of self.now.injections.inputs.now) (suc k) result }
+    {
+        let inputs = self.injections.inputs;
+        let load = &inputs.loads[k];
+        let lesd = withdrawn(load).at(inputs.terms.usep);
+        let gesc = self.injections.injected[k].gesc;
+        let bsc = self.contracts[k];
+        let vcsc = self.vesting[k];
+        let fee = self.fees[k];
+        let nasc = net(gesc, lesd, bsc, vcsc, fee, heuc);
+        Line {
+            account: k as u16 + 1,
+            gesc,
+            lesd,
+            bsc,
+            vcsc,
+            fee,
+            heuc,
+            nasc,
+        }
+    }
+
+    // Every account's line. A loop, and no array made place by place, since a share is what the loads up to an account
+    // bear less what those before it bear.
+    fn lines(&self) -> [Line; ACCOUNTS]
+        ensures { LinesAre (basis_of self.now.injections.inputs.now) result }
+    {
+        let mut lines = [Line::blank(); ACCOUNTS];
+        let mut upto = 0;
+        let mut before = 0;
+        for (k, load) in self.injections.inputs.loads.iter().enumerate() {
+            upto += withdrawn(load).0;
+            let bears = self.borne_upto(Energy(upto)).0;
+            lines[k] = self.line(k, Money(bears - before));
+            before = bears;
+        }
+        lines
+    }
+
+    // Whether the account at place k has a vesting row, and no facility.
+    fn is_unfounded(&self, k: usize) -> bool
+        requires { k < accounts }
+        ensures { result ≡ unfounded (basis_of self.now.injections.inputs.now) (suc k) }
+    {
+        let inputs = self.injections.inputs;
+        let rows = &inputs.vestings[k];
+        has_row(rows) && self.injections.injected[k].count == 0
+    }
+
+    // Whether some account has a vesting row, and no facility.
+    fn some_unfounded(&self) -> bool
+        ensures { result ≡ some_of accounts (unfounded (basis_of self.now.injections.inputs.now)) }
+    {
+        (0..ACCOUNTS).any(|k| self.is_unfounded(k))
+    }
+
+    // What keeps the half hour from being settled, the first that is met.
+    fn check(&self) -> Result<(), Refusal>
+        ensures { answer_number result ≡ first_met (settling_checks (basis_of self.now.injections.inputs.now)) }
+    {
+        let uplift = &self.uplift;
+        if self.some_unfounded() {
+            Err(Refusal::VestingWithoutFacility)
+        } else if uplift.load.0 == 0 && uplift.amount.0 != 0 {
+            Err(Refusal::NoLoadForUplift)
+        } else if !UPLIFT.holds(uplift.rate.0) {
+            Err(Refusal::UpliftBeyondLimit)
+        } else {
+            Ok(())
+        }
     }
 }
 
@@ -181,11 +151,10 @@ pub fn settle(inputs: &Inputs) -> Result<Figures, Refusal>
     ensures conserved { Conserved (basis_of inputs.now) }
     ensures cases { ReferenceCases }
 {
-    let sums = sums_of(inputs);
-    check_settling(inputs, &sums)?;
-    let lines = lines_of(inputs, &sums);
+    let sums = Sums::of(inputs);
+    sums.check()?;
     Ok(Figures {
         uplift: sums.uplift,
-        lines,
+        lines: sums.lines(),
     })
 }

@@ -4,8 +4,6 @@
 ghost use Rattle.formulas.specs.Laws.{CorrectionsJoin};
 
 // Two corrections of one half hour come to what one correction from the first values to the last comes to.
-pub fn corrections_join() -> u8
+pub fn corrections_join()
     ensures { CorrectionsJoin }
-{
-    0
-}
+{}

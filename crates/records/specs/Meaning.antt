@@ -5,8 +5,8 @@ use Rattle.formulas.specs.Basis.{Basis, Injection, Withdrawal, Bilateral, Vested
 use Rattle.records.specs.declared.inputs.Inputs.{Inputs}
 use Rattle.records.specs.declared.inputs.Tranches.{Tranches}
 use Rattle.records.specs.declared.entries.Contract.{Contract}
-use Rattle.records.specs.declared.entries.Facility.{Facility}
-use Rattle.records.specs.declared.entries.Load.{Load}
+use Rattle.records.specs.declared.entries.FacilityWithin.{FacilityWithin}
+use Rattle.records.specs.declared.entries.LoadWithin.{LoadWithin}
 use Rattle.records.specs.declared.entries.Vesting.{Vesting}
 
 -- what stands at number n of a list that is numbered from 1: nothing at 0 and past the end
@@ -14,12 +14,12 @@ abbrev pub numbered : {X : Type 0} → List (Option X) → ℕ → Option X
 numbered xs zero = None
 numbered xs (suc n) = slice_index_or xs n None
 
--- a facility's reading
-abbrev pub injection_of : Facility → Injection
+-- a facility's reading, or how far it moved
+abbrev pub injection_of : {far : ℕ} → FacilityWithin far → Injection
 injection_of f = record { account = f.account; mep = f.mep.0; ieq = f.ieq.0 }
 
--- a load's reading
-abbrev pub withdrawal_of : Load → Withdrawal
+-- a load's reading, or how far it moved
+abbrev pub withdrawal_of : {below : ℕ} → LoadWithin below → Withdrawal
 withdrawal_of l = record { weq = l.weq.0; wfq = l.wfq.0 }
 
 -- a bilateral contract
@@ -49,13 +49,13 @@ tranches_of ts (suc n) = slice_index_or ts n no_tranches
 -- what the figures are worked from, as the inputs hold it
 abbrev pub basis_of : Inputs → Basis
 basis_of i = record {
-  usep = i.usep.0;
-  rate = i.rate.0;
+  usep = i.terms.usep.0;
+  rate = i.terms.rate.0;
   facility = λ n. option_map injection_of (numbered i.facilities n);
   load = λ a. option_map withdrawal_of (numbered i.loads a);
   contract = λ n. option_map bilateral_of (numbered i.contracts n);
   vesting = λ a t. option_map vested_of (tranche (tranches_of i.vestings a) t);
-  counterparty = i.counterparty;
-  operator = i.operator;
-  pending = i.pending.0;
+  counterparty = i.terms.counterparty;
+  operator = i.terms.operator;
+  pending = i.terms.pending.0;
 }

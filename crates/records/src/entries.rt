@@ -1,24 +1,33 @@
 // What is handed in for one half hour: readings, contracts and vesting rows. No record can hold a number outside its
 // range.
-ghost use Rattle.std.specs.Prelude.{◌≡◌, ◌≤◌, ◌&&◌, pos, is_ok, MatchResult};
+ghost use Rattle.std.specs.Prelude.{◌≡◌, ◌≤◌, ◌&&◌, pos, neg_ℤ, is_ok, MatchResult};
 ghost use Rattle.units.specs.Ranges.{Account, Around, Within, inside, account_range, price_range, injection_range, quantity_range, fraction_range};
 ghost use Rattle.units.specs.declared.refusal.Refusal.TheVariants.{OutOfRange};
 
 use units::range::{ACCOUNT, FRACTION, INJECTION, PRICE, QUANTITY};
 use units::{Energy, Price, Refusal};
 
-// What was read of a facility: whose it is, its price (MEP) and its injected energy (IEQ).
+// What was read of a facility, or how far it moved: whose it is, its price (MEP) and its injected energy (IEQ), which
+// lies at most FAR from zero.
 #[derive(Clone, Copy)]
-pub struct Facility {
+pub struct FacilityWithin<const FAR: u64> {
     pub account: u16,
     pub mep: Price,
     pub ieq: Energy,
     ghost account_ok: { Account account },
     ghost mep_ok: { Around 1000000 mep.0 },
-    ghost ieq_ok: { Around 10000000 ieq.0 },
+    ghost ieq_ok: { Around FAR ieq.0 },
+    // a move from one end of what may be read to the other is the widest
+    ghost far_ok: { FAR ≤ 20000000 },
 }
 
-impl Facility {
+// What was read of a facility.
+pub type Facility = FacilityWithin<10_000_000>;
+
+// How far a facility's injected energy moved by a correction.
+pub type MovedFacility = FacilityWithin<20_000_000>;
+
+impl FacilityWithin<10_000_000> {
     pub fn new(account: i64, mep: i64, ieq: i64) -> Result<Facility, Refusal>
         ensures made { MatchResult result (λ f. (pos f.account ≡ account) × (f.mep.0 ≡ mep) × (f.ieq.0 ≡ ieq)) (λ e. e ≡ OutOfRange) }
         ensures accepts { is_ok result ≡ (inside account_range account && inside price_range mep && inside injection_range ieq) }
@@ -30,16 +39,23 @@ impl Facility {
     }
 }
 
-// What was read of a load: its withdrawn energy (WEQ), and the energy on which it pays fees (WFQ).
+// What was read of a load, or how far it moved: its withdrawn energy (WEQ), and the energy on which it pays fees (WFQ),
+// neither more than BELOW below zero.
 #[derive(Clone, Copy)]
-pub struct Load {
+pub struct LoadWithin<const BELOW: u64> {
     pub weq: Energy,
     pub wfq: Energy,
-    ghost weq_ok: { Within (pos 0) (pos 10000000) weq.0 },
-    ghost wfq_ok: { Within (pos 0) (pos 10000000) wfq.0 },
+    ghost weq_ok: { Within (neg_ℤ (pos BELOW)) (pos 10000000) weq.0 },
+    ghost wfq_ok: { Within (neg_ℤ (pos BELOW)) (pos 10000000) wfq.0 },
 }
 
-impl Load {
+// What was read of a load.
+pub type Load = LoadWithin<0>;
+
+// How far a load moved by a correction.
+pub type MovedLoad = LoadWithin<10_000_000>;
+
+impl LoadWithin<0> {
     pub fn new(weq: i64, wfq: i64) -> Result<Load, Refusal>
         ensures made { MatchResult result (λ l. (l.weq.0 ≡ weq) × (l.wfq.0 ≡ wfq)) (λ e. e ≡ OutOfRange) }
         ensures accepts { is_ok result ≡ (inside quantity_range weq && inside quantity_range wfq) }

@@ -19,28 +19,10 @@ pub struct Tranches {
 // What holds for a whole half hour, whatever was read in it.
 #[derive(Clone, Copy)]
 pub struct Terms {
-    pub usep: Price,
-    pub rate: Price,
-    pub counterparty: u16,
-    pub operator: u16,
-    pub pending: Money,
-    ghost usep_ok: { Around 1000000 usep.0 },
-    ghost rate_ok: { Within (pos 0) (pos 100000) rate.0 },
-    ghost counterparty_ok: { Account counterparty },
-    ghost operator_ok: { Account operator },
-    ghost pending_ok: { Around 100000000000000000 pending.0 },
-}
-
-#[derive(Clone, Copy)]
-pub struct Inputs {
     // the pool price (USEP)
     pub usep: Price,
     // the fee rate, of both administrative rates together
     pub rate: Price,
-    pub facilities: [Option<Facility>; FACILITIES],
-    pub loads: [Option<Load>; ACCOUNTS],
-    pub contracts: [Option<Contract>; CONTRACTS],
-    pub vestings: [Tranches; ACCOUNTS],
     // the account that takes the other side of every vesting contract
     pub counterparty: u16,
     // the account that the fees go to
@@ -52,6 +34,16 @@ pub struct Inputs {
     ghost counterparty_ok: { Account counterparty },
     ghost operator_ok: { Account operator },
     ghost pending_ok: { Around 100000000000000000 pending.0 },
+}
+
+// Two of the lists are by account, since a load and vesting rows come from different registers, each in a pass of its own.
+#[derive(Clone, Copy)]
+pub struct Inputs {
+    pub terms: Terms,
+    pub facilities: [Option<Facility>; FACILITIES],
+    pub loads: [Option<Load>; ACCOUNTS],
+    pub contracts: [Option<Contract>; CONTRACTS],
+    pub vestings: [Tranches; ACCOUNTS],
 }
 
 impl Terms {
@@ -74,27 +66,22 @@ impl Terms {
     }
 
     // The same terms with that much pending.
-    pub fn with_pending(self, pending: Money) -> Result<Terms, Refusal>
+    pub fn with_pending(mut self, pending: Money) -> Result<Terms, Refusal>
         ensures made { MatchResult result (λ t. (t.usep ≡ self.usep) × (t.rate ≡ self.rate) × (t.counterparty ≡ self.counterparty) × (t.operator ≡ self.operator) × (t.pending ≡ pending)) (λ e. e ≡ OutOfRange) }
         ensures accepts { is_ok result ≡ inside balance_range pending.0 }
     {
         if !pending.is_within_limit() {
             return Err(Refusal::OutOfRange);
         }
-        Ok(Terms {
-            usep: self.usep,
-            rate: self.rate,
-            counterparty: self.counterparty,
-            operator: self.operator,
-            pending,
-        })
+        self.pending = pending;
+        Ok(self)
     }
 }
 
 impl Inputs {
     // The inputs of a half hour of which nothing has been read yet.
     pub fn new(terms: &Terms) -> Inputs
-        ensures terms { (result.usep ≡ terms.now.usep) × (result.rate ≡ terms.now.rate) × (result.counterparty ≡ terms.now.counterparty) × (result.operator ≡ terms.now.operator) × (result.pending ≡ terms.now.pending) }
+        ensures terms { result.terms ≡ terms.now }
         ensures nothing { (result.facilities ≡ replicate 128 None) × (result.loads ≡ replicate 96 None) × (result.contracts ≡ replicate 64 None) × (result.vestings ≡ replicate 96 (record { base = None; first = None; second = None })) }
     {
         let none = Tranches {
@@ -103,15 +90,11 @@ impl Inputs {
             second: None,
         };
         Inputs {
-            usep: terms.usep,
-            rate: terms.rate,
+            terms: *terms,
             facilities: [None; FACILITIES],
             loads: [None; ACCOUNTS],
             contracts: [None; CONTRACTS],
             vestings: [none; ACCOUNTS],
-            counterparty: terms.counterparty,
-            operator: terms.operator,
-            pending: terms.pending,
         }
     }
 }

@@ -15,8 +15,8 @@ returns c = record {
   cases = cases_come_out;
 }
 
-pub returns-in_err-check_settling : goal.returns-in_err-check_settling
-returns-in_err-check_settling c = record {
+pub returns-in_err-check : goal.returns-in_err-check
+returns-in_err-check c = record {
   number = search rules;
   figures = search rules;
   uplift = uplift_shared (basis_of c.args.inputs.now);

@@ -3,7 +3,7 @@ use Rattle.std.proofs.lemmas.Result.{err_from_is_err_and}
 use Rattle.std.proofs.lemmas.Int.{ints}
 use Rattle.std.proofs.lemmas.Bool.{and_from, and_right}
 use Rattle.units.specs.Ranges.{account_range, price_range, rate_range}
-use Rattle.records.proofs.Told.{told}
+use Rattle.units.proofs.Told.{told}
 use Rattle.records.proofs.inputs.Terms.new.Goals as goal
 
 pub returns-in_err-operator : goal.returns-in_err-operator
