@@ -7,6 +7,7 @@ use Rattle.records.specs.Meaning.{numbered}
 use Rattle.register.specs.Keys.{Numbers, numbered_key, of_half_hour, same_key, same_list}
 use Rattle.register.specs.Rows.{is_at, lookup}
 use Rattle.register.proofs.Rows.{lookup_past}
+use Rattle.gather.specs.Viewed.{ViewOf}
 
 same_list_self : (xs : List ℕ) → same_list xs xs ≡ true
 same_list_self [] = refl
@@ -22,10 +23,6 @@ same_key_self k =
 -- what was read at an index, by another name
 pub read_as : {X : Type 0} (xs : List X) (m : ℕ) (x y : X) → x ≡ y → x ≡ get_or xs m x → y ≡ get_or xs m y
 read_as {X} xs m x y e h = let P : X → Type 0 = λ z. z ≡ get_or xs m z in subst P e h
-
-mapped_other : {X Y : Type 0} (f : X → Y) (o p : Option X) → option_map f (option_or o p) ≡ option_or (option_map f o) (option_map f p)
-mapped_other f None p = refl
-mapped_other f (Some x) p = refl
 
 other_none : {X : Type 0} (o : Option X) → option_or o None ≡ o
 other_none None = refl
@@ -59,16 +56,29 @@ module _ {R : Type 0} (carried : R → Numbers) where
   elsewhere r k d t e f h =
       and_left (of_half_hour k.day k.interval (carried r)) (same_list (carried r).more k.more) (ap (λ x. of_half_hour x k.interval (carried r)) e ∙ ap (λ x. of_half_hour d x (carried r)) f ∙ h)
 
-  module _ {H M : Type 0} (meaning : H → M) (seen : R → M) (keyed : ℕ → Numbers) (apart : (i j : ℕ) → same_key (keyed i) (keyed j) ≡ true → i ≡ j) where
+  -- a row of another key changes nothing
+  pub kept_same : {T : Type 0} (view : R → T → Type 0) (xs : List (Option R)) (m : ℕ) (x : Option R) (k : Numbers) (was : Option T) → m < length xs → x ≡ get_or xs m x → is_at carried k x ≡ false
+      → ViewOf view (lookup carried (take m xs) k) was → ViewOf view (lookup carried (take (m + 1) xs) k) was
+  kept_same {T} view xs m x k was l e n w =
+      let P : Option R → Type 0 = λ o. ViewOf view o was in subst P (sym (lookup_same xs m x k l e n)) w
+
+  module _ {T : Type 0} (view : R → T → Type 0) (keyed : ℕ → Numbers) (apart : (i j : ℕ) → same_key (keyed i) (keyed j) ≡ true → i ≡ j) where
     at_place : (p i : ℕ) → same_key (keyed p) (keyed i) ≡ eqb i p
     at_place p i = ⊎_elim (λ e. ap (λ q. same_key (keyed p) (keyed q)) (eqb-true i p e) ∙ same_key_self (keyed p) ∙ sym e) (λ e. ⊎_elim (λ h. absurd (eqb-false i p e (sym (apart p i h)))) (λ h. h ∙ sym e) (cases_Bool (same_key (keyed p) (keyed i)))) (cases_Bool (eqb i p))
 
+    -- the first of two rows, and what is seen of it
+    first_seen : (o : Option R) (h : Option T) (r : R) (v : T) → ViewOf view o h → view r v → ViewOf view (option_or o (Some r)) (option_or h (Some v))
+    first_seen None None r v e w = w
+    first_seen None (Some x) r v e w = cc
+    first_seen (Some q) None r v e w = absurd e
+    first_seen (Some q) (Some x) r v e w = e
+
     -- a row of which a value is kept at its place
-    pub kept_more : (xs : List (Option R)) (m : ℕ) (r : R) (v : H) (p i : ℕ) (was now : Option H) → m < length xs → Some r ≡ get_or xs m (Some r) → carried r ≡ keyed p → meaning v ≡ seen r
-        → option_map meaning was ≡ option_map seen (lookup carried (take m xs) (keyed i)) → now ≡ cond (eqb i p) (option_or was (Some v)) was
-        → option_map meaning now ≡ option_map seen (lookup carried (take (m + 1) xs) (keyed i))
+    pub kept_more : (xs : List (Option R)) (m : ℕ) (r : R) (v : T) (p i : ℕ) (was now : Option T) → m < length xs → Some r ≡ get_or xs m (Some r) → carried r ≡ keyed p → view r v
+        → ViewOf view (lookup carried (take m xs) (keyed i)) was → now ≡ cond (eqb i p) (option_or was (Some v)) was
+        → ViewOf view (lookup carried (take (m + 1) xs) (keyed i)) now
     kept_more xs m r v p i was now l e k s w n =
-        ap (option_map meaning) n ∙ go (eqb i p) refl
+        let P : Option T → Type 0 = ViewOf view (lookup carried (take (m + 1) xs) (keyed i)) in subst P (sym n) (go (eqb i p) refl)
       where
         at : same_key (carried r) (keyed i) ≡ eqb i p
         at = ap (λ c. same_key c (keyed i)) k ∙ at_place p i
@@ -79,11 +89,16 @@ module _ {R : Type 0} (carried : R → Numbers) where
         more : (b : Bool) → eqb i p ≡ b → lookup carried (take (m + 1) xs) (keyed i) ≡ option_or old (cond b (Some r) None)
         more b f = lookup_more xs m (Some r) (keyed i) l e ∙ ap (λ c. option_or old (cond c (Some r) None)) (at ∙ f)
 
-        go : (b : Bool) → eqb i p ≡ b → option_map meaning (cond b (option_or was (Some v)) was) ≡ option_map seen (lookup carried (take (m + 1) xs) (keyed i))
-        go true f =
-            mapped_other meaning was (Some v) ∙ ap (λ o. option_or o (Some (meaning v))) w ∙ ap (λ y. option_or (option_map seen old) (Some y)) s
-            ∙ sym (mapped_other seen old (Some r)) ∙ ap (option_map seen) (sym (more true f))
-        go false f = w ∙ ap (option_map seen) (sym (more false f ∙ other_none old))
+        go : (b : Bool) → eqb i p ≡ b → ViewOf view (lookup carried (take (m + 1) xs) (keyed i)) (cond b (option_or was (Some v)) was)
+        go true f = let P : Option R → Type 0 = λ o. ViewOf view o (option_or was (Some v)) in subst P (sym (more true f)) (first_seen old was r v w s)
+        go false f = let P : Option R → Type 0 = λ o. ViewOf view o was in subst P (sym (more false f ∙ other_none old)) w
+
+-- what is seen of a row that there may be, by what it means
+pub view_means : {R T M : Type 0} (view : R → T → Type 0) (meaning : T → M) (seen : R → M) → ((r : R) (v : T) → view r v → meaning v ≡ seen r)
+    → (o : Option R) (h : Option T) → ViewOf view o h → option_map meaning h ≡ option_map seen o
+view_means view meaning seen f None h w = ap (option_map meaning) w
+view_means view meaning seen f (Some r) None w = absurd w
+view_means view meaning seen f (Some r) (Some v) w = ap Some (f r v w)
 
 -- a list of nothing holds nothing at any place
 pub nothing_at : {H : Type 0} (n i : ℕ) → get_or {A = Option H} (replicate n None) i None ≡ None

@@ -1,7 +1,9 @@
 -- Vesting rows gathered in one list, three tranches for each account, and taken apart again.
-use Rattle.std.proofs.Common.{◌≡◌, ℕ, zero, suc, ◌+◌, ◌*◌, ◌/◌, ◌%◌, ◌<◌, ◌≤◌, true, false, ◌&&◌, eqb, List, [], ◌∷◌, length, get_or, None, Option, sym, refl, ap, ◌∙◌, ⊎_elim, arith}
+use Rattle.std.proofs.Common.{◌≡◌, ℕ, zero, suc, ◌+◌, ◌*◌, ◌/◌, ◌%◌, ◌<◌, ◌≤◌, true, false, ◌&&◌, eqb, List, [], ◌∷◌, length, get_or, None, Option, sym, refl, subst, ap, ◌∙◌, ⊎_elim, arith}
+use Rattle.std.specs.Array.{IsFromFnResultFrom}
+use Rattle.std.specs.Fn.{Called, Mut}
 use Rattle.std.specs.Option.{option_map}
-use Rattle.std.proofs.lemmas.List.{get_or_default, get_or_past}
+use Rattle.std.proofs.lemmas.List.{get_or_past}
 use Rattle.std.proofs.lemmas.Bool.{and_left, and_right, cases_eq, cases_lt, ne_eqb}
 use Rattle.units.specs.Ranges.{accounts}
 use Rattle.records.specs.Meaning.{no_tranches, tranche, tranches_of, vested_of}
@@ -13,14 +15,15 @@ use Rattle.register.specs.Rows.{lookup}
 use Rattle.rows.specs.declared.vesting.VestingRow.{VestingRow}
 use Rattle.gather.proofs.Passes.{none_carries}
 
-three_are : (a b c p q r : Option Vesting) → a ≡ p → b ≡ q → c ≡ r → ◌≡◌ {A = Tranches} (record { base = a; first = b; second = c }) (record { base = p; first = q; second = r })
-three_are a b c p q r e f g = cc
-
--- the three elements of an account, read with any default
-pub three_read : (flat : List (Option Vesting)) (k : ℕ) (x y z : Option Vesting) → 3 * k + 2 < length flat
-    → ◌≡◌ {A = Tranches} (record { base = get_or flat (3 * k) x; first = get_or flat (3 * k + 1) y; second = get_or flat (3 * k + 2) z }) (three_at flat k)
-three_read flat k x y z l =
-    three_are _ _ _ _ _ _ (get_or_default flat (3 * k) x None (omega arith)) (get_or_default flat (3 * k + 1) y None (omega arith)) (get_or_default flat (3 * k + 2) z None l)
+-- what an array holds that was made by calls, each of which leaves the callee as it should be
+pub each_made : {F B : Type 0} (g : Mut F (ℕ × Unit {0}) B) (Q : F → Type 0) (P : ℕ → B → Type 0) → ((f : F) (i : ℕ) (y : B) (q : F) → Q f → Called g f (i, tt) y q → P i y × Q q)
+    → (f : F) (ys : List B) (i n : ℕ) → Q f → IsFromFnResultFrom g f ys i n → (j : ℕ) (d : B) → i ≤ j → j < i + n → P j (get_or ys j d)
+each_made g Q P step f ys i zero h e j d le lt = absurd (omega arith)
+each_made g Q P step f ys i (suc n) h (q, y, at, called, rest) j d le lt =
+    ⊎_elim
+    (λ e. let R : ℕ → Type 0 = λ k. P k (get_or ys k d) in subst R e (let S : _ → Type 0 = P i in subst S (sym (at.1 d)) (step f i y q h called).0))
+    (λ ne. each_made g Q P step q ys (i + 1) n (step f i y q h called).1 rest j d (omega arith) (omega arith))
+    (cases_eq i j)
 
 -- no account has a tranche that its number or the tranche's number rules out
 absent : (rows : List (Option VestingRow)) (d t a n : ℕ) → ((r : VestingRow) → r.key.account ≡ a → r.key.tranche ≡ n → ⊥) → lookup vesting_key rows (tranche_key d t a n) ≡ None

@@ -8,8 +8,9 @@ use Rattle.records.specs.declared.inputs.Tranches.{Tranches}
 use Rattle.records.specs.declared.entries.Vesting.{Vesting}
 use Rattle.register.specs.Keys.{Numbers, numbered_key, tranche_key}
 use Rattle.register.specs.Rows.{lookup}
-use Rattle.rows.specs.Values.{base_value, first_value, second_value}
+use Rattle.rows.specs.Values.{after_value, base_value, before_value}
 use Rattle.rows.specs.declared.contract.ContractRow.{ContractRow}
+use Rattle.rows.specs.declared.correction.Correction.{Correction}
 use Rattle.rows.specs.declared.facility.FacilityReading.{FacilityReading}
 use Rattle.rows.specs.declared.interval.Interval.{Interval}
 use Rattle.rows.specs.declared.load.LoadReading.{LoadReading}
@@ -36,19 +37,13 @@ base_injection r = record { account = r.account; mep = r.mep.0; ieq = base_value
 abbrev pub base_withdrawal : LoadReading → Withdrawal
 base_withdrawal r = record { weq = base_value r.weq; wfq = base_value r.wfq }
 
--- how far a facility moved by the first correction, and by the second
-abbrev pub first_injection : FacilityReading → Injection
-first_injection r = record { account = r.account; mep = r.mep.0; ieq = first_value r.ieq -ℤ base_value r.ieq }
+-- how far a facility moved by a correction
+abbrev pub injection_by : Correction → FacilityReading → Injection
+injection_by c r = record { account = r.account; mep = r.mep.0; ieq = after_value c r.ieq -ℤ before_value c r.ieq }
 
-abbrev pub second_injection : FacilityReading → Injection
-second_injection r = record { account = r.account; mep = r.mep.0; ieq = second_value r.ieq -ℤ first_value r.ieq }
-
--- how far a load moved by the first correction, and by the second
-abbrev pub first_withdrawal : LoadReading → Withdrawal
-first_withdrawal r = record { weq = first_value r.weq -ℤ base_value r.weq; wfq = first_value r.wfq -ℤ base_value r.wfq }
-
-abbrev pub second_withdrawal : LoadReading → Withdrawal
-second_withdrawal r = record { weq = second_value r.weq -ℤ first_value r.weq; wfq = second_value r.wfq -ℤ first_value r.wfq }
+-- how far a load moved by a correction
+abbrev pub withdrawal_by : Correction → LoadReading → Withdrawal
+withdrawal_by c r = record { weq = after_value c r.weq -ℤ before_value c r.weq; wfq = after_value c r.wfq -ℤ before_value c r.wfq }
 
 -- the contract of a row
 abbrev pub contract_in : ContractRow → Bilateral

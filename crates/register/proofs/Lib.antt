@@ -1,3 +1,4 @@
-pub mod Keys
+pub mod First
 pub mod Mapped
+pub mod Pass
 pub mod Rows

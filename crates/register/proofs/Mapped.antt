@@ -1,8 +1,10 @@
 -- A register whose rows are read another way, each row by what it says: the same keys' rows stand at the same places.
-use Rattle.std.proofs.Common.{◌≡◌, ℕ, zero, suc, Bool, true, false, cond, List, [], ◌∷◌, map, set, Some, None, Option, sym, refl, ap, ◌∙◌}
-use Rattle.std.specs.Option.{option_map}
+use Rattle.std.proofs.Common.{◌≡◌, ℕ, Bool, true, false, cond, List, [], ◌∷◌, map, set, Some, None, Option, sym, refl, ap, ◌∙◌}
+use Rattle.std.proofs.lemmas.List.{map-set}
+use Rattle.std.specs.Option.{option_map, option_or}
 use Rattle.register.specs.Keys.{Numbers, same_key}
-use Rattle.register.specs.Rows.{first, is_at, is_vacant, lookup, place, placed, put_at}
+use Rattle.register.specs.Rows.{is_at, is_vacant, lookup, place, placed, put_at}
+use Rattle.register.proofs.First.{first, place_first}
 
 module _ {R S : Type 0} (carried : R → Numbers) (named : S → Numbers) (f : R → S) (same : (r : R) → named (f r) ≡ carried r) where
   at_mapped : (k : Numbers) (x : Option R) → is_at named k (option_map f x) ≡ is_at carried k x
@@ -35,16 +37,13 @@ module _ {R S : Type 0} (carried : R → Numbers) (named : S → Numbers) (f : R
 
   -- where a row is put
   pub place_mapped : (xs : List (Option R)) (k : Numbers) → place named (map (option_map f) xs) k ≡ place carried xs k
-  place_mapped xs k = rw (first_at_mapped xs k, first_vacant_mapped xs)
-
-  pub set_mapped : (xs : List (Option R)) (i : ℕ) (r : R) → map (option_map f) (set xs i (Some r)) ≡ set (map (option_map f) xs) i (Some (f r))
-  set_mapped [] i r = refl
-  set_mapped (x ∷ xs) zero r = refl
-  set_mapped (x ∷ xs) (suc i) r = ap (λ ys. option_map f x ∷ ys) (set_mapped xs i r)
+  place_mapped xs k =
+      let e : option_or (first (is_at named k) (map (option_map f) xs)) (first is_vacant (map (option_map f) xs)) ≡ option_or (first (is_at carried k) xs) (first is_vacant xs) = rw (first_at_mapped xs k, first_vacant_mapped xs) in
+      place_first named (map (option_map f) xs) k ∙ e ∙ sym (place_first carried xs k)
 
   put_mapped : (o : Option ℕ) (xs : List (Option R)) (r : R) → map (option_map f) (put_at o xs (Some r)) ≡ put_at o (map (option_map f) xs) (Some (f r))
   put_mapped None xs r = refl
-  put_mapped (Some i) xs r = set_mapped xs i r
+  put_mapped (Some i) xs r = map-set (option_map f) xs i (Some r)
 
   -- the rows after a row is put
   pub placed_mapped : (xs : List (Option R)) (r : R) → map (option_map f) (placed carried xs r) ≡ placed named (map (option_map f) xs) (f r)

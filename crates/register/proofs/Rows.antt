@@ -1,12 +1,11 @@
--- What a register means, one row at a time: the steps of a pass over the rows, and every key's row after a change.
-use Rattle.std.proofs.Common.{◌≡◌, ℕ, suc, ◌+◌, ◌<◌, Bool, true, false, cond, eqb, List, [], ◌∷◌, map, length, get_or, drop, is_some, is_ok, IfErr, Some, None, Ok, Err, Option, Result, sym, refl, ap, ◌∙◌, add-zero, zero-add, arith, MatchResult}
-use Rattle.std.specs.Option.{option_map, option_or}
-use Rattle.std.proofs.lemmas.List.{drop_more}
+-- What a register means, one row at a time: where the row of a key stands, and every key's row after a change.
+use Rattle.std.proofs.Common.{◌≡◌, ℕ, suc, Bool, true, false, cond, eqb, List, [], ◌∷◌, map, get_or, is_some, Some, None, Option, sym, refl, ap, ◌∙◌}
+use Rattle.std.specs.List.{find}
+use Rattle.std.specs.Option.{option_flatten, option_map, option_or}
 use Rattle.std.proofs.lemmas.Bool.{and_parts, eqb-true}
-use Rattle.units.specs.declared.refusal.Refusal.{Refusal}
-use Rattle.units.specs.declared.refusal.Refusal.TheVariants.{RegisterFull}
 use Rattle.register.specs.Keys.{Numbers, of_half_hour, same_key, same_list}
-use Rattle.register.specs.Rows.{first, is_at, is_vacant, lookup, place, placed, put_at, vacated}
+use Rattle.register.specs.Rows.{is_at, is_vacant, lookup, place, placed, put_at, vacated}
+use Rattle.register.proofs.First.{first, place_first}
 
 same_list_is : (xs ys : List ℕ) → same_list xs ys ≡ true → xs ≡ ys
 same_list_is [] [] e = refl
@@ -41,33 +40,6 @@ mapped_some (Some i) e = refl
 mapped_none : (o : Option ℕ) → option_map suc o ≡ None → o ≡ None
 mapped_none None e = refl
 mapped_none (Some i) e = cc
-
--- where there is no index, nothing is put
-pub put_nowhere : {X : Type 0} (o : Option ℕ) (xs : List X) (y : X) → is_some o ≡ false → put_at o xs y ≡ xs
-put_nowhere None xs y e = refl
-put_nowhere (Some i) xs y e = cc
-
-mapped_id : (o : Option ℕ) → option_map (λ n. n) o ≡ o
-mapped_id None = refl
-mapped_id (Some i) = refl
-
--- indices counted from one further on
-mapped_past : (i : ℕ) (o : Option ℕ) → option_map (λ n. n + i) (option_map suc o) ≡ option_map (λ n. n + (i + 1)) o
-mapped_past i None = refl
-mapped_past i (Some n) = let e : suc n + i ≡ n + (i + 1) = omega arith in ap Some e
-
--- the first vacant index stays, or is the one at hand
-pub first_free : (free : Option ℕ) (i : ℕ) → is_some free ≡ false → option_or free (Some i) ≡ Some i
-first_free None i e = refl
-first_free (Some j) i e = cc
-
-pub kept_free : (free : Option ℕ) (i : ℕ) → is_some free ≡ true → option_or free (Some i) ≡ free
-kept_free None i e = cc
-kept_free (Some j) i e = refl
-
--- what is left of a list begins with the element at the index
-pub drop_item : {X : Type 0} (xs : List X) (i : ℕ) (x : X) → i < length xs → x ≡ get_or xs i x → drop i xs ≡ x ∷ drop (i + 1) xs
-drop_item xs i x l e = drop_more xs i x l ∙ ap (λ y. y ∷ drop (i + 1) xs) (sym e)
 
 module _ {R : Type 0} (carried : R → Numbers) where
   -- a row that does not carry the key is passed over
@@ -141,19 +113,14 @@ module _ {R : Type 0} (carried : R → Numbers) where
   -- every key's row after a row is put
   pub put_keys : (xs : List (Option R)) (r : R) (q : Numbers) → is_some (place carried xs (carried r)) ≡ true
       → lookup carried (placed carried xs r) q ≡ cond (same_key (carried r) q) (Some r) (lookup carried xs q)
-  put_keys xs r q h = go (first (is_at carried (carried r)) xs) refl h
+  put_keys xs r q h =
+      ap (λ o. lookup carried (put_at o xs (Some r)) q) (place_first carried xs (carried r))
+      ∙ go (first (is_at carried (carried r)) xs) refl (ap is_some (sym (place_first carried xs (carried r))) ∙ h)
     where
       go : (o : Option ℕ) → first (is_at carried (carried r)) xs ≡ o → is_some (option_or o (first is_vacant xs)) ≡ true
           → lookup carried (put_at (option_or o (first is_vacant xs)) xs (Some r)) q ≡ cond (same_key (carried r) q) (Some r) (lookup carried xs q)
       go None e t = into_vacant xs r q e t
       go (Some i) e t = let m : is_some (first (is_at carried (carried r)) xs) ≡ true = ap is_some e in ap (λ o. lookup carried (put_at o xs (Some r)) q) (sym e) ∙ over_key xs r q m
-
-  -- the same by the answer: a refused row changes nothing
-  pub put_law : (before after : List (Option R)) (row : R) (r : Result Unit Refusal) → after ≡ placed carried before row → is_ok r ≡ is_some (place carried before (carried row))
-      → IfErr r (λ e. e ≡ RegisterFull)
-      → MatchResult r (λ u. (q : Numbers) → lookup carried after q ≡ cond (same_key (carried row) q) (Some row) (lookup carried before q)) (λ e. (e ≡ RegisterFull) × (after ≡ before))
-  put_law before after row (Ok u) e a f = λ q. ap (λ ys. lookup carried ys q) e ∙ put_keys before row q (sym a)
-  put_law before after row (Err x) e a f = (f, e ∙ put_nowhere (place carried before (carried row)) before (Some row) (sym a))
 
   -- every key's row after a half hour is vacated
   pub vacated_keys : (xs : List (Option R)) (d t : ℕ) (q : Numbers) → lookup carried (map (vacated carried d t) xs) q ≡ cond (of_half_hour d t q) None (lookup carried xs q)
@@ -173,45 +140,6 @@ module _ {R : Type 0} (carried : R → Numbers) where
           lookup_here y (map (vacated carried d t) xs) q e ∙ ap (λ z. cond z None (Some y)) (sym f)
       go less false true e h = less
       go less false false e h = lookup_past (Some y) (map (vacated carried d t) xs) q e ∙ less
-
-  -- a pass that looks for the key, one row on
-  pub find_more : (xs : List (Option R)) (i : ℕ) (x : Option R) (k : Numbers) → i < length xs → x ≡ get_or xs i x → is_at carried k x ≡ false
-      → lookup carried (drop i xs) k ≡ lookup carried xs k → lookup carried (drop (i + 1) xs) k ≡ lookup carried xs k
-  find_more xs i x k l e n h = sym (lookup_past x (drop (i + 1) xs) k n) ∙ ap (λ ys. lookup carried ys k) (sym (drop_item xs i x l e)) ∙ h
-
-  -- and at the key's row
-  pub find_here : (xs : List (Option R)) (i : ℕ) (r : R) (k : Numbers) → i < length xs → Some r ≡ get_or xs i (Some r) → same_key (carried r) k ≡ true
-      → lookup carried (drop i xs) k ≡ lookup carried xs k → Some r ≡ lookup carried xs k
-  find_here xs i r k l e s h = sym (lookup_here r (drop (i + 1) xs) k s) ∙ ap (λ ys. lookup carried ys k) (sym (drop_item xs i (Some r) l e)) ∙ h
-
-  -- where a row is put, as the rows from index i on and the first vacant row before them tell
-  pub place_from : ℕ → Option ℕ → List (Option R) → Numbers → Option ℕ
-  place_from i free xs k = option_or (option_map (λ n. n + i) (first (is_at carried k) xs)) (option_or free (option_map (λ n. n + i) (first is_vacant xs)))
-
-  pub place_none : (xs : List (Option R)) (k : Numbers) → place_from 0 None xs k ≡ place carried xs k
-  unfolding place_from
-  place_none xs k = simp (add-zero, mapped_id)
-
-  pub place_all : (i : ℕ) (free : Option ℕ) (k : Numbers) → place_from i free [] k ≡ free
-  unfolding place_from first
-  place_all i None k = refl
-  place_all i (Some j) k = refl
-
-  -- at the key's row
-  pub place_here : (i : ℕ) (free : Option ℕ) (r : R) (xs : List (Option R)) (k : Numbers) → same_key (carried r) k ≡ true → place_from i free (Some r ∷ xs) k ≡ Some i
-  unfolding place_from first
-  place_here i free r xs k e = rw e (rw zero-add)
-
-  -- past a row that carries another key
-  pub place_past : (i : ℕ) (free : Option ℕ) (r : R) (xs : List (Option R)) (k : Numbers) → same_key (carried r) k ≡ false → place_from i free (Some r ∷ xs) k ≡ place_from (i + 1) free xs k
-  unfolding place_from first
-  place_past i free r xs k e = rw (e, mapped_past i (first (is_at carried k) xs), mapped_past i (first is_vacant xs))
-
-  -- past a vacant row
-  pub place_vacant : (i : ℕ) (free : Option ℕ) (xs : List (Option R)) (k : Numbers) → place_from i free (None ∷ xs) k ≡ place_from (i + 1) (option_or free (Some i)) xs k
-  unfolding place_from first
-  place_vacant i None xs k = rw (mapped_past i (first (is_at carried k) xs), zero-add)
-  place_vacant i (Some j) xs k = rw (mapped_past i (first (is_at carried k) xs))
 
   -- the first row that carries the key is the key's row
   lookup_at_first : (xs : List (Option R)) (k : Numbers) (i : ℕ) → first (is_at carried k) xs ≡ Some i → lookup carried xs k ≡ get_or xs i None
@@ -248,7 +176,7 @@ module _ {R : Type 0} (carried : R → Numbers) where
 
   -- where the key's row is or would be put, the key's row is what is there
   pub lookup_at_place : (xs : List (Option R)) (k : Numbers) (i : ℕ) → place carried xs k ≡ Some i → lookup carried xs k ≡ get_or xs i None
-  lookup_at_place xs k i e = go (first (is_at carried k) xs) refl e
+  lookup_at_place xs k i e = go (first (is_at carried k) xs) refl (sym (place_first carried xs k) ∙ e)
     where
       go : (o : Option ℕ) → first (is_at carried k) xs ≡ o → option_or o (first is_vacant xs) ≡ Some i → lookup carried xs k ≡ get_or xs i None
       go None f t = lookup_no_first xs k f ∙ sym (vacant_at xs i t)
@@ -256,11 +184,21 @@ module _ {R : Type 0} (carried : R → Numbers) where
 
   -- where there is no place, no row carries the key
   pub lookup_no_place : (xs : List (Option R)) (k : Numbers) → place carried xs k ≡ None → lookup carried xs k ≡ None
-  lookup_no_place xs k e = go (first (is_at carried k) xs) refl e
+  lookup_no_place xs k e = go (first (is_at carried k) xs) refl (sym (place_first carried xs k) ∙ e)
     where
       go : (o : Option ℕ) → first (is_at carried k) xs ≡ o → option_or o (first is_vacant xs) ≡ None → lookup carried xs k ≡ None
       go None f t = lookup_no_first xs k f
       go (Some j) f t = cc
+
+  -- the key's row, as it is found
+  pub lookup_found : (xs : List (Option R)) (k : Numbers) → option_flatten (find (is_at carried k) xs) ≡ lookup carried xs k
+  unfolding lookup
+  lookup_found [] k = refl
+  lookup_found (x ∷ xs) k = go (is_at carried k x) (lookup_found xs k)
+    where
+      go : (b : Bool) → option_flatten (find (is_at carried k) xs) ≡ lookup carried xs k → option_flatten (cond b (Some x) (find (is_at carried k) xs)) ≡ cond b x (lookup carried xs k)
+      go true e = refl
+      go false e = e
 
   -- the key's row carries the key
   pub lookup_carries : (xs : List (Option R)) (k : Numbers) (r : R) → lookup carried xs k ≡ Some r → carried r ≡ k

@@ -1,7 +1,7 @@
 -- What a register means: the row of every key, where a row is put, and what a vacated half hour leaves.
 -- A row is vacant (None) or carries a key, whose numbers `carried` gives.
-use Rattle.std.specs.Prelude.{ℕ, suc, Bool, true, false, cond, List, [], ◌∷◌, Some, None, Option, slice_set}
-use Rattle.std.specs.Option.{option_map, option_or}
+use Rattle.std.specs.Prelude.{ℕ, Bool, true, false, cond, List, [], ◌∷◌, Some, None, Option, position, slice_set}
+use Rattle.std.specs.Option.{option_or}
 use Rattle.register.specs.Keys.{Numbers, of_half_hour, same_key}
 
 -- whether the row carries the key
@@ -19,14 +19,9 @@ unfoldable pub lookup : {R : Type 0} → (R → Numbers) → List (Option R) →
 lookup carried [] k = None
 lookup carried (x ∷ xs) k = cond (is_at carried k x) x (lookup carried xs k)
 
--- the index of the first that passes the test
-unfoldable pub first : {X : Type 0} → (X → Bool) → List X → Option ℕ
-first test [] = None
-first test (x ∷ xs) = cond (test x) (Some 0) (option_map suc (first test xs))
-
 -- where a row of that key is put: over the key's row, else into the first vacant row
 abbrev pub place : {R : Type 0} → (R → Numbers) → List (Option R) → Numbers → Option ℕ
-place carried rows k = option_or (first (is_at carried k) rows) (first is_vacant rows)
+place carried rows k = option_or (position (is_at carried k) rows) (position is_vacant rows)
 
 -- the list with that element at the index, and the same where there is no index
 abbrev pub put_at : {X : Type 0} → Option ℕ → List X → X → List X

@@ -6,8 +6,8 @@ ghost use Rattle.units.specs.declared.refusal.Refusal.TheVariants.{OutOfRange};
 ghost use Rattle.register.specs.Keys.{numbered_key};
 ghost use Rattle.std.proofs.Common.{rules, arith};
 
-use crate::numbers;
 use register::register::Row;
+use units::range::{ACCOUNT, CONTRACT, FRACTION, QUANTITY};
 use units::{Energy, HalfHour, Refusal};
 
 #[derive(Clone, Copy, PartialEq, Eq)]
@@ -45,12 +45,12 @@ impl ContractRow {
         ensures made { MatchResult result (λ c. (c.key.half_hour ≡ half_hour) × (pos c.key.contract ≡ contract) × (pos c.seller ≡ seller) × (pos c.buyer ≡ buyer) × (c.baq.0 ≡ baq) × (pos c.bwf ≡ bwf) × (pos c.bif ≡ bif)) (λ e. e ≡ OutOfRange) }
         ensures accepts { is_ok result ≡ (inside contract_range contract && inside account_range seller && inside account_range buyer && inside quantity_range baq && inside fraction_range bwf && inside fraction_range bif) }
     {
-        let contract = numbers::contract(contract)?;
-        let seller = numbers::account(seller)?;
-        let buyer = numbers::account(buyer)?;
-        let baq = numbers::quantity(baq)?;
-        let bwf = numbers::fraction(bwf)?;
-        let bif = numbers::fraction(bif)?;
+        let contract = CONTRACT.take(contract)? as u8;
+        let seller = ACCOUNT.take(seller)? as u16;
+        let buyer = ACCOUNT.take(buyer)? as u16;
+        let baq = Energy(QUANTITY.take(baq)?);
+        let bwf = FRACTION.take(bwf)? as u16;
+        let bif = FRACTION.take(bif)? as u16;
         Ok(ContractRow {
             key: ContractKey {
                 half_hour,

@@ -1,14 +1,15 @@
 // Facility readings: whose the facility is, its price (MEP), and its injected energy (IEQ) with its corrections.
-ghost use Rattle.std.specs.Prelude.{◌≡◌, ◌≤◌, ◌&&◌, pos, neg_ℤ, is_ok, Some, None, MatchResult};
+ghost use Rattle.std.specs.Prelude.{◌≡◌, ◌≤◌, ◌&&◌, pos, neg_ℤ, is_ok, None, MatchResult};
 ghost use Rattle.units.specs.Ranges.{Account, Around, inside, account_range, facility_range, price_range, injection_range};
 ghost use Rattle.units.specs.declared.refusal.Refusal.TheVariants.{OutOfRange};
 ghost use Rattle.register.specs.Keys.{numbered_key};
-ghost use Rattle.rows.specs.Values.{EachWithin};
+ghost use Rattle.rows.specs.Values.{EachWithin, corrected};
 ghost use Rattle.std.proofs.Common.{rules, arith};
 
+use crate::correction::Correction;
 use crate::metered::Metered;
-use crate::numbers;
 use register::register::Row;
+use units::range::{ACCOUNT, FACILITY, INJECTION, PRICE};
 use units::{HalfHour, Price, Refusal};
 
 #[derive(Clone, Copy, PartialEq, Eq)]
@@ -41,10 +42,10 @@ impl FacilityReading {
         ensures made { MatchResult result (λ f. (f.key.half_hour ≡ half_hour) × (pos f.key.facility ≡ facility) × (pos f.account ≡ account) × (f.mep.0 ≡ mep) × (f.ieq ≡ record { base = ieq; first = None; second = None })) (λ e. e ≡ OutOfRange) }
         ensures accepts { is_ok result ≡ (inside facility_range facility && inside account_range account && inside price_range mep && inside injection_range ieq) }
     {
-        let facility = numbers::facility(facility)?;
-        let account = numbers::account(account)?;
-        let mep = numbers::price(mep)?;
-        let ieq = numbers::injection(ieq)?;
+        let facility = FACILITY.take(facility)? as u8;
+        let account = ACCOUNT.take(account)? as u16;
+        let mep = Price(PRICE.take(mep)?);
+        let ieq = INJECTION.take(ieq)?;
         Ok(FacilityReading {
             key: FacilityKey {
                 half_hour,
@@ -52,25 +53,17 @@ impl FacilityReading {
             },
             account,
             mep,
-            ieq: Metered::new(ieq.0),
+            ieq: Metered::new(ieq),
         })
     }
 
-    // The same with a first correction: the energy that the other reading has.
-    pub fn with_first(mut self, other: &FacilityReading) -> FacilityReading
+    // The same with a correction: the energy that the other reading has.
+    pub fn with(mut self, correction: Correction, other: &FacilityReading) -> FacilityReading
         ensures kept { (result.key ≡ self.key) × (result.account ≡ self.account) × (result.mep ≡ self.mep) }
-        ensures ieq { result.ieq ≡ record { base = self.ieq.base; first = Some other.now.ieq.base; second = self.ieq.second } }
+        ensures ieq { result.ieq ≡ corrected correction self.ieq other.now.ieq.base }
     {
-        self.ieq = self.ieq.with_first(other.ieq.base);
-        self
-    }
-
-    // The same with a second correction.
-    pub fn with_second(mut self, other: &FacilityReading) -> FacilityReading
-        ensures kept { (result.key ≡ self.key) × (result.account ≡ self.account) × (result.mep ≡ self.mep) }
-        ensures ieq { result.ieq ≡ record { base = self.ieq.base; first = self.ieq.first; second = Some other.now.ieq.base } }
-    {
-        self.ieq = self.ieq.with_second(other.ieq.base);
+        // a literal with `..self` is refused for a struct with ghost fields
+        self.ieq = self.ieq.with(correction, other.ieq.base);
         self
     }
 }

@@ -8,10 +8,9 @@ ghost use Rattle.register.specs.Keys.{interval_key};
 ghost use Rattle.rows.specs.Phases.{phase_number};
 ghost use Rattle.std.proofs.Common.{rules, arith};
 
-use crate::numbers;
 use crate::phase::Phase;
 use register::register::Row;
-use units::range::UPLIFT;
+use units::range::{PRICE, RATE, UPLIFT};
 use units::{HalfHour, Price, Refusal, Stamp};
 
 #[derive(Clone, Copy)]
@@ -34,8 +33,8 @@ impl Interval {
         ensures made { MatchResult result (λ i. (i.half_hour ≡ half_hour) × (i.usep.0 ≡ usep) × (i.rate.0 ≡ rate) × (phase_number i.phase ≡ 1) × (i.last.days ≡ 0) × (i.last.minute ≡ 0) × (i.uplift ≡ None)) (λ e. e ≡ OutOfRange) }
         ensures accepts { is_ok result ≡ (inside price_range usep && inside rate_range rate) }
     {
-        let usep = numbers::price(usep)?;
-        let rate = numbers::rate(rate)?;
+        let usep = Price(PRICE.take(usep)?);
+        let rate = Price(RATE.take(rate)?);
         let last = Stamp { days: 0, minute: 0 };
         Ok(Interval {
             half_hour,
@@ -53,6 +52,7 @@ impl Interval {
         ensures phase { result.phase ≡ phase }
         ensures last { result.last ≡ last }
     {
+        // a literal with `..self` is refused for a struct with ghost fields
         self.phase = phase;
         self.last = last;
         self
@@ -66,6 +66,7 @@ impl Interval {
         if !UPLIFT.holds(uplift.0) {
             return Err(Refusal::UpliftBeyondLimit);
         }
+        // a literal with `..self` is refused for a struct with ghost fields
         self.uplift = Some(uplift.0);
         Ok(self)
     }

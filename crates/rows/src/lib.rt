@@ -3,20 +3,20 @@
 #![tactic(auto)]
 
 pub mod contract;
+pub mod correction;
 pub mod facility;
 pub mod interval;
 pub mod load;
 pub mod metered;
-mod numbers;
 pub mod phase;
 pub mod reading;
 pub mod vesting;
 
 pub use contract::{ContractKey, ContractRow};
+pub use correction::Correction;
 pub use facility::{FacilityKey, FacilityReading};
 pub use interval::Interval;
 pub use load::{LoadKey, LoadReading};
 pub use metered::Metered;
 pub use phase::Phase;
-pub use reading::Sort;
 pub use vesting::{VestingKey, VestingRow};

@@ -1,14 +1,15 @@
 // Load readings: an account's withdrawn energy (WEQ), and the energy on which it pays fees (WFQ), with their corrections.
-ghost use Rattle.std.specs.Prelude.{◌≡◌, ◌&&◌, pos, is_ok, Some, None, MatchResult};
+ghost use Rattle.std.specs.Prelude.{◌≡◌, ◌&&◌, pos, is_ok, None, MatchResult};
 ghost use Rattle.units.specs.Ranges.{Account, inside, account_range, quantity_range};
 ghost use Rattle.units.specs.declared.refusal.Refusal.TheVariants.{OutOfRange};
 ghost use Rattle.register.specs.Keys.{numbered_key};
-ghost use Rattle.rows.specs.Values.{EachWithin};
+ghost use Rattle.rows.specs.Values.{EachWithin, corrected};
 ghost use Rattle.std.proofs.Common.{rules, arith};
 
+use crate::correction::Correction;
 use crate::metered::Metered;
-use crate::numbers;
 use register::register::Row;
+use units::range::{ACCOUNT, QUANTITY};
 use units::{HalfHour, Refusal};
 
 #[derive(Clone, Copy, PartialEq, Eq)]
@@ -38,35 +39,25 @@ impl LoadReading {
         ensures made { MatchResult result (λ l. (l.key.half_hour ≡ half_hour) × (pos l.key.account ≡ account) × (l.weq ≡ record { base = weq; first = None; second = None }) × (l.wfq ≡ record { base = wfq; first = None; second = None })) (λ e. e ≡ OutOfRange) }
         ensures accepts { is_ok result ≡ (inside account_range account && inside quantity_range weq && inside quantity_range wfq) }
     {
-        let account = numbers::account(account)?;
-        let weq = numbers::quantity(weq)?;
-        let wfq = numbers::quantity(wfq)?;
+        let account = ACCOUNT.take(account)? as u16;
+        let weq = QUANTITY.take(weq)?;
+        let wfq = QUANTITY.take(wfq)?;
         Ok(LoadReading {
             key: LoadKey { half_hour, account },
-            weq: Metered::new(weq.0),
-            wfq: Metered::new(wfq.0),
+            weq: Metered::new(weq),
+            wfq: Metered::new(wfq),
         })
     }
 
-    // The same with a first correction: the quantities that the other reading has.
-    pub fn with_first(mut self, other: &LoadReading) -> LoadReading
+    // The same with a correction: the quantities that the other reading has.
+    pub fn with(mut self, correction: Correction, other: &LoadReading) -> LoadReading
         ensures kept { result.key ≡ self.key }
-        ensures weq { result.weq ≡ record { base = self.weq.base; first = Some other.now.weq.base; second = self.weq.second } }
-        ensures wfq { result.wfq ≡ record { base = self.wfq.base; first = Some other.now.wfq.base; second = self.wfq.second } }
+        ensures weq { result.weq ≡ corrected correction self.weq other.now.weq.base }
+        ensures wfq { result.wfq ≡ corrected correction self.wfq other.now.wfq.base }
     {
-        self.weq = self.weq.with_first(other.weq.base);
-        self.wfq = self.wfq.with_first(other.wfq.base);
-        self
-    }
-
-    // The same with a second correction.
-    pub fn with_second(mut self, other: &LoadReading) -> LoadReading
-        ensures kept { result.key ≡ self.key }
-        ensures weq { result.weq ≡ record { base = self.weq.base; first = self.weq.first; second = Some other.now.weq.base } }
-        ensures wfq { result.wfq ≡ record { base = self.wfq.base; first = self.wfq.first; second = Some other.now.wfq.base } }
-    {
-        self.weq = self.weq.with_second(other.weq.base);
-        self.wfq = self.wfq.with_second(other.wfq.base);
+        // a literal with `..self` is refused for a struct with ghost fields
+        self.weq = self.weq.with(correction, other.weq.base);
+        self.wfq = self.wfq.with(correction, other.wfq.base);
         self
     }
 }

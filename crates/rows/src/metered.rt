@@ -1,13 +1,15 @@
 // A metered quantity in kWh, with its two corrections where they were made. A value that was never corrected is the one
 // before it.
-ghost use Rattle.std.specs.Prelude.{◌≡◌, Some, None};
-ghost use Rattle.rows.specs.Values.{base_value, first_value, second_value};
+ghost use Rattle.std.specs.Prelude.{◌≡◌, None};
+ghost use Rattle.rows.specs.Values.{after_value, base_value, before_value, corrected};
 
+use crate::correction::Correction;
 use units::Energy;
 
 #[derive(Clone, Copy)]
 pub struct Metered {
     pub base: i64,
+    // two options and not one of both: the second correction can stand without the first
     pub first: Option<i64>,
     pub second: Option<i64>,
 }
@@ -31,39 +33,40 @@ impl Metered {
         Energy(self.base)
     }
 
-    // The value after the first correction.
-    pub fn after_first(&self) -> Energy
-        ensures { result.0 ≡ first_value self.now }
+    // The value before a correction.
+    pub fn before(&self, correction: Correction) -> Energy
+        ensures { result.0 ≡ before_value correction self.now }
     {
-        match self.first {
-            Some(value) => Energy(value),
-            None => self.base(),
+        match correction {
+            Correction::First => self.base(),
+            Correction::Second => self.after(Correction::First),
         }
     }
 
-    // The value after the second correction.
-    pub fn after_second(&self) -> Energy
-        ensures { result.0 ≡ second_value self.now }
+    // The value after a correction.
+    pub fn after(&self, correction: Correction) -> Energy
+        ensures { result.0 ≡ after_value correction self.now }
     {
-        match self.second {
-            Some(value) => Energy(value),
-            None => self.after_first(),
+        let first = self.first.unwrap_or(self.base);
+        match correction {
+            Correction::First => Energy(first),
+            Correction::Second => Energy(self.second.unwrap_or(first)),
         }
     }
 
-    // The same with that first correction.
-    pub fn with_first(mut self, value: i64) -> Metered
-        ensures { result ≡ record { base = self.base; first = Some value; second = self.second } }
+    // The same with that value as its correction.
+    pub fn with(self, correction: Correction, value: i64) -> Metered
+        ensures { result ≡ corrected correction self value }
     {
-        self.first = Some(value);
-        self
-    }
-
-    // The same with that second correction.
-    pub fn with_second(mut self, value: i64) -> Metered
-        ensures { result ≡ record { base = self.base; first = self.first; second = Some value } }
-    {
-        self.second = Some(value);
-        self
+        match correction {
+            Correction::First => Metered {
+                first: Some(value),
+                ..self
+            },
+            Correction::Second => Metered {
+                second: Some(value),
+                ..self
+            },
+        }
     }
 }

@@ -4,23 +4,18 @@ ghost use Rattle.rows.specs.Phases.{phase_number};
 
 #[derive(Clone, Copy, PartialEq, Eq, Debug)]
 pub enum Phase {
-    Reading,
-    Preliminary,
-    Final,
-    FirstAdjusted,
-    SecondAdjusted,
+    Reading = 1,
+    Preliminary = 2,
+    Final = 3,
+    FirstAdjusted = 4,
+    SecondAdjusted = 5,
 }
 
 impl Phase {
+    // The number of the case; each such enum has its own, since no generic function can cast one.
     pub fn number(self) -> u8
         ensures { result ≡ phase_number self }
     {
-        match self {
-            Phase::Reading => 1,
-            Phase::Preliminary => 2,
-            Phase::Final => 3,
-            Phase::FirstAdjusted => 4,
-            Phase::SecondAdjusted => 5,
-        }
+        self as u8
     }
 }

@@ -5,8 +5,8 @@ ghost use Rattle.units.specs.declared.refusal.Refusal.TheVariants.{OutOfRange};
 ghost use Rattle.register.specs.Keys.{tranche_key};
 ghost use Rattle.std.proofs.Common.{rules, arith};
 
-use crate::numbers;
 use register::register::Row;
+use units::range::{ACCOUNT, PRICE, QUANTITY, TRANCHE};
 use units::{Energy, HalfHour, Price, Refusal};
 
 #[derive(Clone, Copy, PartialEq, Eq)]
@@ -38,10 +38,10 @@ impl VestingRow {
         ensures made { MatchResult result (λ v. (v.key.half_hour ≡ half_hour) × (pos v.key.account ≡ account) × (pos v.key.tranche ≡ tranche) × (v.price.0 ≡ price) × (v.quantity.0 ≡ quantity)) (λ e. e ≡ OutOfRange) }
         ensures accepts { is_ok result ≡ (inside account_range account && inside tranche_range tranche && inside price_range price && inside quantity_range quantity) }
     {
-        let account = numbers::account(account)?;
-        let tranche = numbers::tranche(tranche)?;
-        let price = numbers::price(price)?;
-        let quantity = numbers::quantity(quantity)?;
+        let account = ACCOUNT.take(account)? as u16;
+        let tranche = TRANCHE.take(tranche)? as u8;
+        let price = Price(PRICE.take(price)?);
+        let quantity = Energy(QUANTITY.take(quantity)?);
         Ok(VestingRow {
             key: VestingKey {
                 half_hour,

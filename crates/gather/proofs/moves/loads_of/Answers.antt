@@ -1,0 +1,11 @@
+use Rattle.std.proofs.Common.{refl, rules}
+use Rattle.units.specs.Ranges.{accounts}
+use Rattle.records.specs.Moved.{withdrawal_moved}
+use Rattle.gather.specs.Gathered.{withdrawal_by, load_key}
+use Rattle.gather.proofs.Passes.{by_number, view_means}
+use Rattle.gather.proofs.moves.loads_of.Goals as goal
+
+pub returns : goal.returns
+returns c =
+    by_number load_key (λ r. r.key.account) (λ r. refl) withdrawal_moved (withdrawal_by c.args.correction) c.args.rows.now c.gather.result c.args.half_hour.day c.args.half_hour.interval accounts
+    (λ r. r.account_ok) (search rules) (λ i l. view_means _ withdrawal_moved (withdrawal_by c.args.correction) (λ r v w. search rules) _ _ (c.gather.ensures i l))
