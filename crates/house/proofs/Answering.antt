@@ -1,5 +1,5 @@
 -- The number of an answer, step by step.
-use Rattle.std.proofs.Common.{◌≡◌, ℕ, ◌<◌, Bool, true, false, cond, not, ◌&&◌, List, [], ◌∷◌, ◌++◌, IsErrAnd, Some, None, Ok, Err, Option, Result, refl, ap, arith}
+use Rattle.std.proofs.Common.{◌≡◌, ℕ, ◌<◌, Bool, true, false, cond, not, List, [], ◌∷◌, ◌++◌, IsErrAnd, Some, None, Ok, Err, Option, Result, refl, ap, arith}
 use Rattle.units.specs.Refusals.{answer_number, refusal_number}
 use Rattle.units.specs.Checks.{Check, first_met}
 use Rattle.units.specs.declared.refusal.Refusal.{Refusal}
@@ -20,22 +20,6 @@ outside false e = refl
 pub within : (b : Bool) → true ≡ b → ◌≡◌ {A = ℕ} 0 (cond (not b) 1 0)
 within true e = refl
 within false e = cc
-
--- of two tests the second fails, of three the second or the third; all of them pass
-pub second_fails : (a b : Bool) → true ≡ a → false ≡ b → false ≡ (a && b)
-second_fails a b p q = cc
-
-pub middle_fails : (a b c : Bool) → true ≡ a → false ≡ b → false ≡ (a && b && c)
-middle_fails a b c p q = cc
-
-pub third_fails : (a b c : Bool) → true ≡ a → true ≡ b → false ≡ c → false ≡ (a && b && c)
-third_fails a b c p q r = cc
-
-pub two_pass : (a b : Bool) → true ≡ a → true ≡ b → true ≡ (a && b)
-two_pass a b p q = cc
-
-pub three_pass : (a b c : Bool) → true ≡ a → true ≡ b → true ≡ c → true ≡ (a && b && c)
-three_pass a b c p q r = cc
 
 -- no refusal has the number 0
 pub has_number : (e : Refusal) → refusal_number e ≡ 0 → ⊥

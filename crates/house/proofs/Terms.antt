@@ -1,41 +1,48 @@
 -- How the answer of a bilateral contract or a vesting row follows from the answers of its steps.
-use Rattle.std.proofs.Common.{◌≡◌, ℕ, Bool, not, List, [], ◌∷◌, map, is_some, Option, sym, ap, ◌∙◌, lit<}
+use Rattle.std.proofs.Common.{◌≡◌, ℕ, not, eqb, List, [], ◌∷◌, map, is_some, MatchResult, Ok, Err, Option, Result, sym, ap, ◌∙◌, lit<}
 use Rattle.std.specs.Option.{option_map}
 use Rattle.units.specs.Checks.{Check, first_met}
 use Rattle.units.specs.Refusals.{refusal_number}
 use Rattle.units.specs.declared.refusal.Refusal.{Refusal}
 use Rattle.register.specs.Keys.{Numbers}
-use Rattle.register.specs.Rows.{place}
-use Rattle.register.proofs.Mapped.{place_mapped}
+use Rattle.register.specs.Rows.{place, placed}
+use Rattle.register.proofs.Mapped.{place_mapped, placed_mapped}
 use Rattle.rows.specs.Meaning.{IntervalSaid}
-use Rattle.house.specs.Open.{check, if_open, in_phase}
-use Rattle.house.specs.Rows.{reading_phase}
+use Rattle.house.specs.Open.{check, half_hour_of, if_open, in_phase, open_at}
+use Rattle.house.specs.Rows.{agreed_checks, reading_phase}
 use Rattle.house.proofs.Answering.{open_passes, open_stops, passes, stops}
 
--- the checks that depend on the interval
-abbrev pub rest : Option IntervalSaid → Check → List Check
-rest o ten = if_open o (λ i. check 7 (not (in_phase 1 i)) ∷ ten ∷ [])
+module _ {S : Type 0} (named : S → Numbers) (one other : ℕ) (row : S) (is : List (Option IntervalSaid)) (rows : List (Option S)) where
+  abbrev two : Check
+  two = check 2 (eqb one other)
 
-module _ (b p : Bool) (o : Option IntervalSaid) (ten : Check) where
-  pub refused_range : (e : Refusal) → refusal_number e ≡ first_met (check 1 b ∷ []) → refusal_number e ≡ first_met (check 1 b ∷ check 2 p ∷ rest o ten)
-  refused_range e h = stops e (check 1 b ∷ []) (check 2 p ∷ rest o ten) h
+  abbrev ten : Check
+  ten = check 10 (not (is_some (place named rows (named row))))
 
-  past_range : 0 ≡ first_met (check 1 b ∷ []) → first_met (check 2 p ∷ rest o ten) ≡ first_met (check 1 b ∷ check 2 p ∷ rest o ten)
-  past_range h = passes (check 1 b ∷ []) (check 2 p ∷ rest o ten) (lit< tt, tt) h
+  abbrev opened : Option IntervalSaid
+  opened = open_at is (half_hour_of (named row))
 
-  pub refused_party : (e : Refusal) → 0 ≡ first_met (check 1 b ∷ []) → refusal_number e ≡ first_met (check 2 p ∷ []) → refusal_number e ≡ first_met (check 1 b ∷ check 2 p ∷ rest o ten)
-  refused_party e h n = stops e (check 2 p ∷ []) (rest o ten) n ∙ past_range h
+  abbrev rest : List Check
+  rest = if_open opened (λ i. check 7 (not (in_phase 1 i)) ∷ ten ∷ [])
 
-  past_party : 0 ≡ first_met (check 1 b ∷ []) → 0 ≡ first_met (check 2 p ∷ []) → first_met (rest o ten) ≡ first_met (check 1 b ∷ check 2 p ∷ rest o ten)
-  past_party h n = passes (check 2 p ∷ []) (rest o ten) (lit< tt, tt) n ∙ past_range h
+  pub refused_party : (e : Refusal) → refusal_number e ≡ first_met (two ∷ []) → refusal_number e ≡ first_met (agreed_checks named one other row is rows)
+  refused_party e h = stops e (two ∷ []) rest h
 
-  pub refused_phase : (e : Refusal) → 0 ≡ first_met (check 1 b ∷ []) → 0 ≡ first_met (check 2 p ∷ []) → refusal_number e ≡ first_met (if_open o reading_phase) → refusal_number e ≡ first_met (check 1 b ∷ check 2 p ∷ rest o ten)
-  refused_phase e h n m = open_stops e o reading_phase (ten ∷ []) m ∙ past_party h n
+  pub refused_phase : (e : Refusal) → 0 ≡ first_met (two ∷ []) → refusal_number e ≡ first_met (if_open opened reading_phase) → refusal_number e ≡ first_met (agreed_checks named one other row is rows)
+  refused_phase e h n = open_stops e opened reading_phase (ten ∷ []) n ∙ passes (two ∷ []) rest (lit< tt, tt) h
 
-  pub past_phase : (n : ℕ) → 0 ≡ first_met (check 1 b ∷ []) → 0 ≡ first_met (check 2 p ∷ []) → 0 ≡ first_met (if_open o reading_phase) → n ≡ first_met (ten ∷ []) → n ≡ first_met (check 1 b ∷ check 2 p ∷ rest o ten)
-  past_phase n h q m t = t ∙ open_passes o reading_phase (ten ∷ []) (λ i. (lit< tt, tt)) m ∙ past_party h q
+  pub past_phase : 0 ≡ first_met (two ∷ []) → 0 ≡ first_met (if_open opened reading_phase) → first_met (ten ∷ []) ≡ first_met (agreed_checks named one other row is rows)
+  past_phase h n = open_passes opened reading_phase (ten ∷ []) (λ i. (lit< tt, tt)) n ∙ passes (two ∷ []) rest (lit< tt, tt) h
 
--- the check on the place, by the row's key as it was handed in
-pub place_check : {R S : Type 0} (carried : R → Numbers) (named : S → Numbers) (says : R → S) (same : (r : R) → named (says r) ≡ carried r) (rows : List (Option R)) (k q : Numbers) → k ≡ q
-    → first_met (check 10 (not (is_some (place carried rows k))) ∷ []) ≡ first_met (check 10 (not (is_some (place named (map (option_map says) rows) q))) ∷ [])
-place_check carried named says same rows k q e = ap (λ o. first_met (check 10 (not (is_some o)) ∷ [])) (ap (place carried rows) e ∙ sym (place_mapped carried named says same rows q))
+-- the rows after a row was put, by what they say
+pub put_mapped : {R S : Type 0} (carried : R → Numbers) (named : S → Numbers) (says : R → S) (same : (r : R) → named (says r) ≡ carried r) (old new : List (Option R)) (row : R) (given : S) → says row ≡ given → (r : Result (Unit {0}) Refusal)
+    → MatchResult r (λ _. new ≡ placed carried old row) (λ _. new ≡ old) → MatchResult r (λ _. map (option_map says) new ≡ placed named (map (option_map says) old) given) (λ _. new ≡ old)
+put_mapped carried named says same old new row given e (Ok u) h = ap (map (option_map says)) h ∙ placed_mapped carried named says same old row ∙ ap (placed named (map (option_map says) old)) e
+put_mapped carried named says same old new row given e (Err x) h = h
+
+-- the checks of a row, by what it says
+pub agreed_mapped : {R S : Type 0} (carried : R → Numbers) (named : S → Numbers) (says : R → S) (same : (r : R) → named (says r) ≡ carried r) (one other : ℕ) (row : R) (is : List (Option IntervalSaid)) (rows : List (Option R))
+    → first_met (agreed_checks carried one other row is rows) ≡ first_met (agreed_checks named one other (says row) is (map (option_map says) rows))
+agreed_mapped carried named says same one other row is rows =
+    ap (λ o. first_met (check 2 (eqb one other) ∷ if_open (open_at is (half_hour_of (carried row))) (λ i. check 7 (not (in_phase 1 i)) ∷ check 10 (not (is_some o)) ∷ []))) (sym (place_mapped carried named says same rows (carried row)))
+    ∙ ap (λ k. first_met (check 2 (eqb one other) ∷ if_open (open_at is (half_hour_of k)) (λ i. check 7 (not (in_phase 1 i)) ∷ check 10 (not (is_some (place named (map (option_map says) rows) k))) ∷ []))) (sym (same row))

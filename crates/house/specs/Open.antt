@@ -2,7 +2,7 @@
 use Rattle.std.specs.Prelude.{ℕ, Bool, true, List, [], ◌∷◌, ℤ, Some, None, Option, ◌==◌, unsigned_abs}
 use Rattle.units.specs.Checks.{Check}
 use Rattle.units.specs.Stamps.{earlier}
-use Rattle.register.specs.Keys.{Numbers}
+use Rattle.register.specs.Keys.{Numbers, interval_key}
 use Rattle.register.specs.Rows.{lookup, placed}
 use Rattle.rows.specs.Meaning.{IntervalSaid, interval_named}
 use Rattle.rows.specs.Phases.{phase_number}
@@ -11,6 +11,10 @@ use Rattle.rows.specs.declared.phase.Phase.{Phase}
 -- the open interval of that key
 abbrev pub open_at : List (Option IntervalSaid) → Numbers → Option IntervalSaid
 open_at is k = lookup interval_named is k
+
+-- the key of a key's half hour
+abbrev pub half_hour_of : Numbers → Numbers
+half_hour_of k = interval_key k.day k.interval
 
 -- a check with its number
 abbrev pub check : ℕ → Bool → Check
@@ -29,9 +33,12 @@ before_last d m i = earlier (unsigned_abs d) (unsigned_abs m) i.days i.minute
 abbrev pub in_phase : ℕ → IntervalSaid → Bool
 in_phase p i = phase_number i.phase == p
 
--- the interval in that phase, with that last stamp
+-- the interval in that phase, with that last stamp, and with one as it is handed in
+abbrev pub moved_at : Phase → ℕ → ℕ → IntervalSaid → IntervalSaid
+moved_at p d m i = record { key = i.key; usep = i.usep; rate = i.rate; phase = p; days = d; minute = m; uplift = i.uplift }
+
 abbrev pub moved_to : Phase → ℤ → ℤ → IntervalSaid → IntervalSaid
-moved_to p d m i = record { key = i.key; usep = i.usep; rate = i.rate; phase = p; days = unsigned_abs d; minute = unsigned_abs m; uplift = i.uplift }
+moved_to p d m i = moved_at p (unsigned_abs d) (unsigned_abs m) i
 
 -- the rows with a row put, where there is one to put
 abbrev pub put_row : {S : Type 0} → (S → Numbers) → List (Option S) → Option S → List (Option S)

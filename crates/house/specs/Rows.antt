@@ -9,7 +9,7 @@ use Rattle.register.specs.Keys.{Numbers}
 use Rattle.register.specs.Rows.{place}
 use Rattle.rows.specs.Meaning.{IntervalSaid, ContractSaid, VestingSaid, contract_named, interval_named, vesting_named}
 use Rattle.house.specs.Calls.{contract_given, half_hour_key, is_contract, is_interval, is_vesting, vesting_given}
-use Rattle.house.specs.Open.{check, if_open, in_phase, open_at}
+use Rattle.house.specs.Open.{check, half_hour_of, if_open, in_phase, open_at}
 use Rattle.house.specs.State.{HouseState}
 
 -- whether a half hour comes after another: by day, then by interval
@@ -37,22 +37,19 @@ with_latest c h = record { number = h.number; participants = h.participants; cou
 abbrev pub reading_phase : IntervalSaid → List Check
 reading_phase i = check 7 (not (in_phase 1 i)) ∷ []
 
+-- the checks of a row that one account agrees on with another
+abbrev pub agreed_checks : {S : Type 0} → (S → Numbers) → ℕ → ℕ → S → List (Option IntervalSaid) → List (Option S) → List Check
+agreed_checks named one other row is rows =
+    check 2 (one == other)
+    ∷ if_open (open_at is (half_hour_of (named row))) (λ i.
+    check 7 (not (in_phase 1 i))
+    ∷ check 10 (not (is_some (place named rows (named row))))
+    ∷ [])
+
 -- the checks of a bilateral contract
 abbrev pub contract_checks : ContractCall → List (Option IntervalSaid) → List (Option ContractSaid) → List Check
-contract_checks c is cs =
-    check 1 (not (is_contract c))
-    ∷ check 2 (unsigned_abs c.seller == unsigned_abs c.buyer)
-    ∷ if_open (open_at is (half_hour_key c.day c.interval)) (λ i.
-    check 7 (not (in_phase 1 i))
-    ∷ check 10 (not (is_some (place contract_named cs (contract_given c).key)))
-    ∷ [])
+contract_checks c is cs = check 1 (not (is_contract c)) ∷ agreed_checks contract_named (unsigned_abs c.seller) (unsigned_abs c.buyer) (contract_given c) is cs
 
 -- the checks of a vesting row, in a house with that counterparty account
 abbrev pub vesting_checks : VestingCall → ℕ → List (Option IntervalSaid) → List (Option VestingSaid) → List Check
-vesting_checks c k is vs =
-    check 1 (not (is_vesting c))
-    ∷ check 2 (unsigned_abs c.account == k)
-    ∷ if_open (open_at is (half_hour_key c.day c.interval)) (λ i.
-    check 7 (not (in_phase 1 i))
-    ∷ check 10 (not (is_some (place vesting_named vs (vesting_given c).key)))
-    ∷ [])
+vesting_checks c k is vs = check 1 (not (is_vesting c)) ∷ agreed_checks vesting_named (unsigned_abs c.account) k (vesting_given c) is vs

@@ -1,14 +1,14 @@
 // The opening of a house and of its intervals.
-ghost use Rattle.std.specs.Prelude.{◌≡◌, ℕ, ◌-◌, ◌<◌, not, [], ◌∷◌, map, IfOk, MatchResult, slice_index, unsigned_abs};
+ghost use Rattle.std.specs.Prelude.{◌≡◌, ℕ, ◌-◌, ◌<◌, true, false, not, [], ◌∷◌, map, IfOk, MatchResult, slice_index, unsigned_abs};
 ghost use Rattle.units.specs.Checks.{first_met};
-ghost use Rattle.units.specs.Ranges.{Account, accounts};
+ghost use Rattle.units.specs.Ranges.{Account, account_range, accounts, inside};
 ghost use Rattle.units.specs.Refusals.{answer_number};
 ghost use Rattle.units.specs.declared.refusal.Refusal.TheVariants.{OutOfRange};
 ghost use Rattle.register.specs.Rows.{placed};
 ghost use Rattle.rows.specs.Meaning.{interval_named, interval_rows};
 ghost use Rattle.house.specs.Calls.{interval_given};
 ghost use Rattle.house.specs.Open.{check};
-ghost use Rattle.house.specs.Rows.{comes_after, interval_checks, not_after, with_latest};
+ghost use Rattle.house.specs.Rows.{interval_checks, not_after, with_latest};
 ghost use Rattle.house.specs.State.{OpeningIs, all_participants, house_says, key_of, newly_opened, opening_checks};
 
 use crate::open::put_row;
@@ -21,17 +21,20 @@ use rows::Interval;
 use units::range::{ACCOUNT, HOUSE};
 use units::{ACCOUNTS, HalfHour, Money, Refusal};
 
+// The number of an account or of a participant, refused by 1 where there is none.
+fn account(z: i64) -> Result<u16, Refusal>
+    ensures { MatchResult result (λ a. (a ≡ unsigned_abs z) × (inside account_range z ≡ true)) (λ e. (e ≡ OutOfRange) × (inside account_range z ≡ false)) }
+{
+    Ok(ACCOUNT.take(z)? as u16)
+}
+
 // Each account's participant, refused by 1 where one is none.
 fn taken_participants(given: &[i64; ACCOUNTS]) -> Result<[u16; ACCOUNTS], Refusal>
     ensures answer { answer_number result ≡ first_met (check 1 (not (all_participants given.now)) ∷ []) }
     ensures participants { IfOk result (λ p. p ≡ map unsigned_abs given.now) }
     ensures within { IfOk result (λ p. (k : ℕ) → k < accounts → Account (slice_index p k)) }
 {
-    let mut participants = [0; ACCOUNTS];
-    for k in 0..ACCOUNTS {
-        participants[k] = ACCOUNT.take(given[k])? as u16;
-    }
-    Ok(participants)
+    given.try_map(account)
 }
 
 impl Opening {
@@ -41,8 +44,8 @@ impl Opening {
         ensures opening { IfOk result (OpeningIs call.now) }
     {
         let number = HOUSE.take(call.number)? as u16;
-        let counterparty = ACCOUNT.take(call.counterparty)? as u16;
-        let operator = ACCOUNT.take(call.operator)? as u16;
+        let counterparty = account(call.counterparty)?;
+        let operator = account(call.operator)?;
         let participants = taken_participants(&call.participants)?;
         if counterparty == operator {
             return Err(Refusal::SameParty);
@@ -79,10 +82,9 @@ impl House {
     pub fn participant(&self, account: u16) -> Result<u16, Refusal>
         ensures { MatchResult result (λ p. Account account × (p ≡ slice_index (house_says self.now).participants (account - 1))) (λ e. (e ≡ OutOfRange) × (Account account → ⊥)) }
     {
-        if account < 1 || account as usize > ACCOUNTS {
-            return Err(Refusal::OutOfRange);
-        }
-        Ok(self.opening.participants[account as usize - 1])
+        let index = account.checked_sub(1).ok_or(Refusal::OutOfRange)?;
+        let participant = self.opening.participants.get(index as usize);
+        participant.copied().ok_or(Refusal::OutOfRange)
     }
 
     // The terms of an interval in this house: its prices, the two standing accounts, and what is pending.
@@ -103,15 +105,10 @@ impl House {
     fn check_after(&self, half_hour: HalfHour) -> Result<(), Refusal>
         ensures { answer_number result ≡ first_met (check 3 (not_after (key_of half_hour) (house_says self.now).latest) ∷ []) }
     {
-        let after = match self.latest {
-            Some(latest) => comes_after(half_hour, latest),
-            None => true,
-        };
-        if after {
-            Ok(())
-        } else {
-            Err(Refusal::NotAfterLatest)
+        if self.latest.is_some_and(|latest| half_hour <= latest) {
+            return Err(Refusal::NotAfterLatest);
         }
+        Ok(())
     }
 
     // Opens an interval.
@@ -129,16 +126,5 @@ impl House {
         put_row(intervals, interval)?;
         self.latest = Some(interval.half_hour);
         Ok(())
-    }
-}
-
-// Whether a half hour comes after another: by day, then by interval.
-fn comes_after(half_hour: HalfHour, other: HalfHour) -> bool
-    ensures { result ≡ comes_after (key_of half_hour) (key_of other) }
-{
-    if half_hour.day == other.day {
-        half_hour.interval > other.interval
-    } else {
-        half_hour.day > other.day
     }
 }

@@ -8,7 +8,9 @@ mod loads;
 pub mod open;
 mod opening;
 mod pending;
+mod readings;
 mod sorts;
+mod stamped;
 mod state;
 mod taken;
 
@@ -16,4 +18,5 @@ pub use agreed::take_contract;
 pub use facilities::read_facility;
 pub use loads::read_load;
 pub use opening::Opening;
+pub use sorts::check_last;
 pub use state::House;

@@ -19,6 +19,16 @@ pub struct At<R> {
     pub row: R,
 }
 
+impl<R: Row> At<R> {
+    // Writes the row at its index; past the end nothing is written.
+    pub fn write(&self, rows: &mut [Option<R>])
+        ensures { rows.new ≡ slice_set rows.old self.now.index (Some self.now.row) }
+    {
+        let mut register = Register { rows };
+        register.write(self.index, self.row);
+    }
+}
+
 // Puts a row over its key's row, else into the first vacant row, refused by 10 where there is neither.
 pub(crate) fn put_row<R: Row>(rows: &mut [Option<R>], row: R) -> Result<(), Refusal>
     ensures answer { answer_number result ≡ first_met (check 10 (not (is_some (place R.Row.carried rows.old (R.Row.carried row)))) ∷ []) }
@@ -37,12 +47,10 @@ pub fn find_open(
     ensures found { IfOk result (λ o. open_at (interval_rows intervals.now) (interval_key half_hour.day half_hour.interval) ≡ Some (interval_says o.row)) }
     ensures writes { IfOk result (λ o. (i : OpenedInterval) → (interval_says i).key ≡ interval_key half_hour.day half_hour.interval → interval_rows (slice_set intervals.now o.index (Some i)) ≡ placed interval_named (interval_rows intervals.now) (interval_says i)) }
 {
-    let sought = seek(intervals, half_hour);
-    match sought.row {
-        Some(row) => match sought.place {
-            Some(index) => Ok(At { index, row }),
-            None => Err(Refusal::NotOpen),
-        },
-        None => Err(Refusal::NotOpen),
-    }
+    let sought = seek(intervals, half_hour).ok_or(Refusal::NotOpen)?;
+    let row = sought.row.ok_or(Refusal::NotOpen)?;
+    Ok(At {
+        index: sought.index,
+        row,
+    })
 }

@@ -1,5 +1,5 @@
 // What a house is opened with, held to its ranges. No opening has one account as counterparty and operator.
-ghost use Rattle.std.specs.Prelude.{◌≡◌, ℕ, ◌<◌, ◌≢◌, slice_index};
+ghost use Rattle.std.specs.Prelude.{ℕ, ◌<◌, ◌≢◌, slice_index};
 ghost use Rattle.units.specs.Ranges.{Account, accounts};
 
 use units::ACCOUNTS;

@@ -7,32 +7,27 @@ ghost use Rattle.house.specs.Open.{check};
 ghost use Rattle.house.specs.State.{house_says, with_pending};
 
 use crate::state::House;
-use units::{BALANCE_LIMIT, Money, Refusal};
+use units::{BALANCE, Money, Refusal};
 
+// A struct with a ghost field takes no `..*self`: each of the two changes a copy.
 impl House {
     // The same house with that much more pending, refused by 15 where the sum would pass its limit.
     pub fn with_more_pending(&self, more: Money) -> Result<House, Refusal>
         ensures answer { answer_number result ≡ first_met (check 15 (not (inside balance_range ((house_says self.now).pending +ℤ more.0))) ∷ []) }
         ensures house { IfOk result (λ h. house_says h ≡ with_pending ((house_says self.now).pending +ℤ more.0) (house_says self.now)) }
     {
-        match self.pending.0.checked_add(more.0) {
-            Some(sum) if -BALANCE_LIMIT <= sum && sum <= BALANCE_LIMIT => Ok(House {
-                opening: self.opening,
-                latest: self.latest,
-                pending: Money(sum),
-            }),
-            _ => Err(Refusal::BalanceBeyondLimit),
-        }
+        let sum = self.pending.plus_within(more, BALANCE);
+        let mut house = *self;
+        house.pending = sum.ok_or(Refusal::BalanceBeyondLimit)?;
+        Ok(house)
     }
 
     // The same house with nothing pending.
     pub fn with_nothing_pending(&self) -> House
         ensures { house_says result ≡ with_pending (pos 0) (house_says self.now) }
     {
-        House {
-            opening: self.opening,
-            latest: self.latest,
-            pending: Money(0),
-        }
+        let mut house = *self;
+        house.pending = Money(0);
+        house
     }
 }

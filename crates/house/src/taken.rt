@@ -1,26 +1,22 @@
 // What a call hands in, held to its ranges: refused by 1 where a number lies outside.
-ghost use Rattle.std.specs.Prelude.{◌≡◌, not, [], ◌∷◌, IfOk, unsigned_abs};
+ghost use Rattle.std.specs.Prelude.{◌≡◌, not, [], ◌∷◌, IfOk};
 ghost use Rattle.units.specs.Checks.{first_met};
 ghost use Rattle.units.specs.Refusals.{answer_number};
 ghost use Rattle.rows.specs.Meaning.{contract_says, facility_says, interval_says, load_says, vesting_says};
-ghost use Rattle.house.specs.Calls.{contract_given, facility_given, interval_given, is_contract, is_facility, is_interval, is_load, is_vesting, load_given, vesting_given};
+ghost use Rattle.house.specs.Calls.{contract_given, interval_given, is_contract, is_facility, is_interval, is_load, is_vesting, vesting_given};
 ghost use Rattle.house.specs.Open.{check};
+ghost use Rattle.house.specs.Readings.{facility_handed, handed, load_handed};
 
+use crate::stamped::Stamped;
 use calls::{ContractCall, FacilityCall, IntervalCall, LoadCall, VestingCall};
 use rows::{ContractRow, FacilityReading, Interval, LoadReading, VestingRow};
 use units::{HalfHour, Refusal, Stamp};
 
-// A row as it is handed in, with its stamp.
-#[derive(Clone, Copy)]
-pub(crate) struct Stamped<R> {
-    pub(crate) row: R,
-    pub(crate) stamp: Stamp,
-}
+// No `TryFrom`: calls and rows are types of other crates.
 
 pub(crate) fn taken_facility(call: &FacilityCall) -> Result<Stamped<FacilityReading>, Refusal>
     ensures answer { answer_number result ≡ first_met (check 1 (not (is_facility call.now)) ∷ []) }
-    ensures row { IfOk result (λ t. facility_says t.row ≡ facility_given call.now) }
-    ensures stamp { IfOk result (λ t. (t.stamp.days ≡ unsigned_abs call.now.days) × (t.stamp.minute ≡ unsigned_abs call.now.minute)) }
+    ensures handed { IfOk result (λ t. handed facility_says t ≡ facility_handed call.now) }
 {
     let half_hour = HalfHour::new(call.day, call.interval)?;
     let row = FacilityReading::new(half_hour, call.facility, call.account, call.mep, call.ieq)?;
@@ -30,8 +26,7 @@ pub(crate) fn taken_facility(call: &FacilityCall) -> Result<Stamped<FacilityRead
 
 pub(crate) fn taken_load(call: &LoadCall) -> Result<Stamped<LoadReading>, Refusal>
     ensures answer { answer_number result ≡ first_met (check 1 (not (is_load call.now)) ∷ []) }
-    ensures row { IfOk result (λ t. load_says t.row ≡ load_given call.now) }
-    ensures stamp { IfOk result (λ t. (t.stamp.days ≡ unsigned_abs call.now.days) × (t.stamp.minute ≡ unsigned_abs call.now.minute)) }
+    ensures handed { IfOk result (λ t. handed load_says t ≡ load_handed call.now) }
 {
     let half_hour = HalfHour::new(call.day, call.interval)?;
     let row = LoadReading::new(half_hour, call.account, call.weq, call.wfq)?;

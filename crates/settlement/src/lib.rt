@@ -5,4 +5,3 @@ mod adjusting;
 mod step;
 
 pub use adjusting::adjust;
-pub use step::Step;

@@ -1,43 +1,37 @@
-// The two adjustments of a half hour.
+// What an adjustment by a correction wants, and where it leads.
 ghost use Rattle.std.specs.Prelude.{◌≡◌};
 ghost use Rattle.settlement.specs.Steps.{from_phase, last_window, to_phase};
 
-use rows::Phase;
+use rows::{Correction, Phase};
+use units::Window;
 
 #[derive(Clone, Copy)]
-pub enum Step {
-    First,
-    Second,
+pub(crate) struct Step {
+    // the phase that it wants, and the one that it leads to
+    pub(crate) from: Phase,
+    pub(crate) to: Phase,
+    // the last window that is too early for it
+    pub(crate) early: Window,
 }
 
 impl Step {
-    // The number of the phase that it wants.
-    pub(crate) fn from_phase(self) -> u8
-        ensures { result ≡ from_phase self }
+    // The step that an adjustment by that correction is.
+    pub(crate) fn by(correction: Correction) -> Step
+        ensures from { result.from ≡ from_phase correction }
+        ensures to { result.to ≡ to_phase correction }
+        ensures early { result.early ≡ last_window correction }
     {
-        match self {
-            Step::First => 3,
-            Step::Second => 4,
-        }
-    }
-
-    // The phase that it leads to.
-    pub(crate) fn to_phase(self) -> Phase
-        ensures { result ≡ to_phase self }
-    {
-        match self {
-            Step::First => Phase::FirstAdjusted,
-            Step::Second => Phase::SecondAdjusted,
-        }
-    }
-
-    // The number of the last window that is too early for it.
-    pub(crate) fn last_window(self) -> u8
-        ensures { result ≡ last_window self }
-    {
-        match self {
-            Step::First => 3,
-            Step::Second => 4,
+        match correction {
+            Correction::First => Step {
+                from: Phase::Final,
+                to: Phase::FirstAdjusted,
+                early: Window::Third,
+            },
+            Correction::Second => Step {
+                from: Phase::FirstAdjusted,
+                to: Phase::SecondAdjusted,
+                early: Window::Fourth,
+            },
         }
     }
 }

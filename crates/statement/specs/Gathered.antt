@@ -4,7 +4,8 @@ use Rattle.std.specs.Option.{option_map}
 use Rattle.formulas.specs.Basis.{Basis, Injection, Withdrawal, Bilateral, Vested}
 use Rattle.register.specs.Keys.{numbered_key, tranche_key}
 use Rattle.register.specs.Rows.{lookup}
-use Rattle.rows.specs.Meaning.{IntervalSaid, FacilitySaid, LoadSaid, ContractSaid, VestingSaid, contract_named, facility_named, load_named, vesting_named}
+use Rattle.gather.specs.declared.handed.Rows.{Rows}
+use Rattle.rows.specs.Meaning.{IntervalSaid, FacilitySaid, LoadSaid, ContractSaid, VestingSaid, contract_named, contract_rows, facility_named, facility_rows, load_named, load_rows, vesting_named, vesting_rows}
 use Rattle.rows.specs.Values.{base_value}
 use Rattle.house.specs.State.{HouseState}
 
@@ -37,3 +38,7 @@ basis_in h i fs ls cs vs = record {
   operator = h.operator;
   pending = h.pending;
 }
+
+-- the same of the registers that are handed over
+abbrev pub basis_by : HouseState → Rows → IntervalSaid → Basis
+basis_by h rows i = basis_in h i (facility_rows rows.readings.facilities.now) (load_rows rows.readings.loads.now) (contract_rows rows.contracts.now) (vesting_rows rows.vestings.now)

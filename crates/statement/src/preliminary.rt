@@ -1,45 +1,26 @@
 // The writing of a preliminary statement: first decided, with nothing changed, then written.
-ghost use Rattle.std.specs.Prelude.{◌≡◌, ℕ, ◌<◌, ◌≤◌, not, [], ◌∷◌, length, drop, IfOk, Some, MatchResult, OnOk, ◌==◌, nat_lt, slice_index_or, slice_set};
+ghost use Rattle.std.specs.Prelude.{◌≡◌, ℕ, ◌<◌, ◌≤◌, [], ◌∷◌, length, drop, IfOk, Some, MatchResult, OnOk, nat_lt, slice_index_or, slice_set};
 ghost use Rattle.units.specs.Checks.{first_met};
 ghost use Rattle.units.specs.Ranges.{accounts};
 ghost use Rattle.units.specs.Refusals.{answer_number};
-ghost use Rattle.units.specs.Stamps.{earlier, window};
 ghost use Rattle.figures.specs.Settled.{FiguresAre};
 ghost use Rattle.figures.specs.declared.line.Line.{Line as WrittenLine};
 ghost use Rattle.formulas.specs.Figures.{settling_checks};
-ghost use Rattle.rows.specs.Meaning.{IntervalSaid, contract_rows, facility_rows, interval_rows, interval_says, load_rows, vesting_rows};
-ghost use Rattle.rows.specs.Phases.{phase_number};
+ghost use Rattle.rows.specs.Meaning.{IntervalSaid, interval_rows, interval_says};
 ghost use Rattle.house.specs.Open.{check, open_at};
 ghost use Rattle.house.specs.State.{house_says, key_of};
-ghost use Rattle.statement.specs.Gathered.{basis_in};
+ghost use Rattle.statement.specs.Gathered.{basis_by};
 ghost use Rattle.statement.specs.Statements.{LinesWritten, StatementOf, preliminary_checks, preliminary_intervals, stamped_key};
 
-use crate::stamped::taken;
+use crate::stamped::{check_stamp, taken};
 use crate::token::Statement;
 use calls::StampedCall;
 use figures::{Figures, Line, settle};
-use gather::inputs_of;
+use gather::{Rows, inputs_of};
 use house::House;
 use house::open::{At, find_open};
-use register::Register;
-use rows::{ContractRow, FacilityReading, Interval, LoadReading, Phase, VestingRow};
-use units::{ACCOUNTS, HalfHour, Refusal, Stamp};
-
-// What keeps an open interval from a preliminary statement at that stamp.
-fn check_stamp(interval: &Interval, stamp: Stamp) -> Result<(), Refusal>
-    ensures { answer_number result ≡ first_met (check 6 (earlier stamp.days stamp.minute interval.now.last.days interval.now.last.minute) ∷ check 7 (not (phase_number interval.now.phase == 1)) ∷ check 8 (window stamp.days stamp.minute == 1) ∷ []) }
-{
-    if stamp.is_before(interval.last) {
-        return Err(Refusal::StampBeforeLast);
-    }
-    if interval.phase.number() != 1 {
-        return Err(Refusal::WrongPhase);
-    }
-    if stamp.window().number() == 1 {
-        return Err(Refusal::WrongWindow);
-    }
-    Ok(())
-}
+use rows::{Interval, Phase};
+use units::{ACCOUNTS, HalfHour, Refusal, Window};
 
 // Refused by 11 where there are fewer lines than accounts.
 pub(crate) fn check_lines(count: usize) -> Result<(), Refusal>
@@ -55,23 +36,13 @@ pub(crate) fn check_lines(count: usize) -> Result<(), Refusal>
 pub(crate) fn figures_of(
     house: &House,
     interval: &Interval,
-    facilities: &[Option<FacilityReading>],
-    loads: &[Option<LoadReading>],
-    contracts: &[Option<ContractRow>],
-    vestings: &[Option<VestingRow>],
+    rows: &Rows,
 ) -> Result<Figures, Refusal>
-    ensures answer { answer_number result ≡ first_met (settling_checks (basis_in (house_says house.now) (interval_says interval.now) (facility_rows facilities.now) (load_rows loads.now) (contract_rows contracts.now) (vesting_rows vestings.now))) }
-    ensures figures { IfOk result (FiguresAre (basis_in (house_says house.now) (interval_says interval.now) (facility_rows facilities.now) (load_rows loads.now) (contract_rows contracts.now) (vesting_rows vestings.now))) }
+    ensures answer { answer_number result ≡ first_met (settling_checks (basis_by (house_says house.now) rows.now (interval_says interval.now))) }
+    ensures figures { IfOk result (FiguresAre (basis_by (house_says house.now) rows.now (interval_says interval.now))) }
 {
     let terms = house.terms(interval);
-    let inputs = inputs_of(
-        &terms,
-        interval.half_hour,
-        facilities,
-        loads,
-        contracts,
-        vestings,
-    );
+    let inputs = inputs_of(&terms, interval.half_hour, rows);
     settle(&inputs)
 }
 
@@ -81,10 +52,7 @@ pub(crate) fn write_lines(lines: &mut [Line], written: &[Line; ACCOUNTS])
     ensures first { (k : ℕ) (d : WrittenLine) → k < accounts → slice_index_or lines.new k d ≡ slice_index_or written.now k d }
     ensures beyond { drop accounts lines.new ≡ drop accounts lines.old }
 {
-    for k in 0..ACCOUNTS {
-        let line = &written[k];
-        lines[k] = *line;
-    }
+    lines[..ACCOUNTS].copy_from_slice(written);
 }
 
 // What an accepted preliminary statement writes.
@@ -95,27 +63,26 @@ struct Plan {
     half_hour: HalfHour,
 }
 
+// What an accepted preliminary statement writes. The house is read and the intervals will be written: they are handed over
+// apart from the rows, as the owner of the registers hands them over at each call.
 fn plan_preliminary(
     house: &House,
     intervals: &[Option<Interval>],
-    facilities: &[Option<FacilityReading>],
-    loads: &[Option<LoadReading>],
-    contracts: &[Option<ContractRow>],
-    vestings: &[Option<VestingRow>],
+    rows: &Rows,
     count: usize,
     call: &StampedCall,
 ) -> Result<Plan, Refusal>
-    ensures answer { answer_number result ≡ first_met (preliminary_checks call.now (interval_rows intervals.now) count (λ i. basis_in (house_says house.now) i (facility_rows facilities.now) (load_rows loads.now) (contract_rows contracts.now) (vesting_rows vestings.now))) }
+    ensures answer { answer_number result ≡ first_met (preliminary_checks call.now (interval_rows intervals.now) count (basis_by (house_says house.now) rows.now)) }
     ensures intervals { IfOk result (λ p. interval_rows (slice_set intervals.now p.interval.index (Some p.interval.row)) ≡ preliminary_intervals call.now (interval_rows intervals.now)) }
-    ensures figures { IfOk result (λ p. (i : IntervalSaid) → open_at (interval_rows intervals.now) (stamped_key call.now) ≡ Some i → FiguresAre (basis_in (house_says house.now) i (facility_rows facilities.now) (load_rows loads.now) (contract_rows contracts.now) (vesting_rows vestings.now)) p.figures) }
+    ensures figures { IfOk result (λ p. (i : IntervalSaid) → open_at (interval_rows intervals.now) (stamped_key call.now) ≡ Some i → FiguresAre (basis_by (house_says house.now) rows.now i) p.figures) }
     ensures half_hour { IfOk result (λ p. key_of p.half_hour ≡ stamped_key call.now) }
     ensures lines { OnOk result (accounts ≤ count) }
 {
     let taken = taken(call)?;
     let opened = find_open(intervals, taken.half_hour)?;
-    check_stamp(&opened.row, taken.stamp)?;
+    check_stamp(&opened.row, Phase::Reading, Window::First, taken.stamp)?;
     check_lines(count)?;
-    let figures = figures_of(house, &opened.row, facilities, loads, contracts, vestings)?;
+    let figures = figures_of(house, &opened.row, rows)?;
     let row = opened.row.moved(Phase::Preliminary, taken.stamp);
     Ok(Plan {
         interval: At {
@@ -131,34 +98,21 @@ fn plan_preliminary(
 pub fn write_preliminary(
     house: &House,
     intervals: &mut [Option<Interval>],
-    facilities: &[Option<FacilityReading>],
-    loads: &[Option<LoadReading>],
-    contracts: &[Option<ContractRow>],
-    vestings: &[Option<VestingRow>],
+    rows: &Rows,
     lines: &mut [Line],
     call: &StampedCall,
 ) -> Result<Statement, Refusal>
-    ensures answer { answer_number result ≡ first_met (preliminary_checks call.now (interval_rows intervals.old) (length lines.old) (λ i. basis_in (house_says house.now) i (facility_rows facilities.now) (load_rows loads.now) (contract_rows contracts.now) (vesting_rows vestings.now))) }
+    ensures answer { answer_number result ≡ first_met (preliminary_checks call.now (interval_rows intervals.old) (length lines.old) (basis_by (house_says house.now) rows.now)) }
     ensures intervals { MatchResult result (λ _. interval_rows intervals.new ≡ preliminary_intervals call.now (interval_rows intervals.old)) (λ _. intervals.new ≡ intervals.old) }
-    ensures lines { MatchResult result (λ _. LinesWritten (stamped_key call.now) (interval_rows intervals.old) (λ i. basis_in (house_says house.now) i (facility_rows facilities.now) (load_rows loads.now) (contract_rows contracts.now) (vesting_rows vestings.now)) lines.old lines.new) (λ _. lines.new ≡ lines.old) }
+    ensures lines { MatchResult result (λ _. LinesWritten (stamped_key call.now) (interval_rows intervals.old) (basis_by (house_says house.now) rows.now) lines.old lines.new) (λ _. lines.new ≡ lines.old) }
     ensures statement { IfOk result (StatementOf (house_says house.now).number call.now) }
 {
     let count = lines.len();
-    let plan = plan_preliminary(
-        house, intervals, facilities, loads, contracts, vestings, count, call,
-    )?;
+    let plan = plan_preliminary(house, intervals, rows, count, call)?;
     write_lines(lines, &plan.figures.lines);
-    write_interval(intervals, &plan.interval);
+    plan.interval.write(intervals);
     Ok(Statement {
         house: house.number(),
         half_hour: plan.half_hour,
     })
-}
-
-// Writes an interval's row in its place.
-pub(crate) fn write_interval(intervals: &mut [Option<Interval>], at: &At<Interval>)
-    ensures { intervals.new ≡ slice_set intervals.old at.now.index (Some at.now.row) }
-{
-    let mut register = Register { rows: intervals };
-    register.write(at.index, at.row);
 }

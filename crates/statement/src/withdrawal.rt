@@ -12,7 +12,6 @@ ghost use Rattle.statement.specs.Statements.{withdrawal_checks, withdrawal_inter
 use crate::token::Statement;
 use house::House;
 use house::open::{At, find_open};
-use register::Register;
 use rows::{Interval, Phase};
 use units::Refusal;
 
@@ -30,10 +29,8 @@ pub(crate) fn find_preliminary(
     if statement.house != house.number() {
         return Err(Refusal::NotThisStatement);
     }
-    let Ok(opened) = find_open(intervals, statement.half_hour) else {
-        return Err(Refusal::NotThisStatement);
-    };
-    if opened.row.phase.number() != 2 {
+    let opened = find_open(intervals, statement.half_hour).map_err(|_| Refusal::NotThisStatement)?;
+    if opened.row.phase != Phase::Preliminary {
         return Err(Refusal::NotThisStatement);
     }
     Ok(opened)
@@ -71,7 +68,6 @@ pub fn withdraw(
         half_hour: _,
     } = statement;
     let again = plan?;
-    let mut register = Register { rows: intervals };
-    register.write(again.index, again.row);
+    again.write(intervals);
     Ok(())
 }

@@ -1,35 +1,12 @@
-use Rattle.std.proofs.Common.{◌≡◌, true, false, ◌&&◌, pos, refl, ap, ◌∙◌, rules}
-use Rattle.units.specs.Ranges.{inside, account_range, price_range, quantity_range, tranche_range}
+use Rattle.std.proofs.Common.{ap, ◌∙◌, rules}
 use Rattle.units.specs.Refusals.{refusal_number}
-use Rattle.house.specs.Calls.{is_vesting, is_half_hour}
-use Rattle.house.proofs.Answering.{handed_on, outside, within, second_fails, two_pass}
-use Rattle.house.proofs.Given.{vesting_is}
+use Rattle.house.specs.Calls.{is_vesting}
+use Rattle.house.proofs.Answering.{handed_on, outside, within}
 use Rattle.house.proofs.taken.taken_vesting.Goals as goal
 
-pub returns-in_err-row : goal.returns-in_err-row
-returns-in_err-row c =
-    let call = c.args.call.now in
-    let h : true ≡ is_half_hour call.day call.interval = search rules in
-    let f : false ≡ (inside account_range call.account && inside tranche_range call.tranche && inside price_range call.price && inside quantity_range call.quantity) = search rules in
-    record {
-      answer = handed_on c.from_residual-in_err-row.result c.in_err-row.field-0.0 c.from_residual-in_err-row.ensures.1 ∙ ap refusal_number c.in_err-row.ensures.made ∙ outside (is_vesting call) (second_fails _ _ h f);
-      row = search rules;
-    }
+pub returns-in_err-row-clause-answer : goal.returns-in_err-row-clause-answer
+returns-in_err-row-clause-answer c =
+    handed_on c.from_residual-in_err-row.result c.in_err-row.field-0.0 c.from_residual-in_err-row.ensures.1 ∙ ap refusal_number c.in_err-row.ensures.made ∙ outside (is_vesting c.args.call.now) (search rules)
 
-pub returns : goal.returns
-returns c =
-    let call = c.args.call.now in
-    let h : true ≡ is_half_hour call.day call.interval = search rules in
-    let f : true ≡ (inside account_range call.account && inside tranche_range call.tranche && inside price_range call.price && inside quantity_range call.quantity) = search rules in
-    let half_hour = c.in_ok-half_hour.half_hour in
-    let r = c.in_ok-row.row in
-    let d : pos half_hour.day ≡ call.day = search rules in
-    let t : pos half_hour.interval ≡ call.interval = search rules in
-    let a : pos r.key.account ≡ call.account = search rules in
-    let n : pos r.key.tranche ≡ call.tranche = search rules in
-    let p : r.price.0 ≡ call.price = search rules in
-    let q : r.quantity.0 ≡ call.quantity = search rules in
-    record {
-      answer = within (is_vesting call) (two_pass _ _ h f);
-      row = vesting_is half_hour call.day call.interval d t r call refl refl c.in_ok-row.ensures.made.0 a n p q;
-    }
+pub returns-clause-answer : goal.returns-clause-answer
+returns-clause-answer c = within (is_vesting c.args.call.now) (search rules)

@@ -1,28 +1,27 @@
-use Rattle.std.proofs.Common.{◌≡◌, Bool, not, List, [], ◌∷◌, ◌++◌, ◌+ℤ◌, Some, None, Option, sym, ap, ◌∙◌, subst, arith, lit<, rules}
+use Rattle.std.proofs.Common.{◌≡◌, ℕ, ℤ, Bool, not, List, [], ◌∷◌, ◌++◌, Some, None, Option, sym, ap, ◌∙◌, subst, arith, lit<, rules}
 use Rattle.units.specs.Checks.{Check, first_met}
-use Rattle.units.specs.Ranges.{accounts, balance_range, inside}
+use Rattle.units.specs.Ranges.{accounts}
 use Rattle.units.specs.Refusals.{refusal_number}
 use Rattle.units.specs.declared.refusal.Refusal.{Refusal}
 use Rattle.book.specs.Statement.{InTurn, Settled, amount_of, statement_checks}
 use Rattle.calls.specs.declared.StampedCall.{StampedCall}
-use Rattle.formulas.specs.Sums.{sum}
-use Rattle.rows.specs.Meaning.{IntervalSaid, FacilitySaid, LoadSaid, facility_rows, interval_rows, load_rows}
+use Rattle.rows.specs.Meaning.{IntervalSaid, facility_rows, interval_rows, load_rows}
+use Rattle.rows.specs.declared.correction.Correction.{Correction}
 use Rattle.house.specs.Open.{check, if_open, open_at}
 use Rattle.house.specs.State.{HouseState, house_says}
 use Rattle.house.proofs.Answering.{Numbered, handed_on, passes, stops}
 use Rattle.statement.specs.Statements.{is_stamped, stamped_key}
-use Rattle.settlement.specs.Steps.{adjusted_house, adjusting_stamp, adjusts}
-use Rattle.settlement.specs.declared.step.Step.{Step}
+use Rattle.settlement.specs.Steps.{adjusted_house, adjusting_stamp, adjusts_by, pending_check}
 use Rattle.book.proofs.Amounts.{checks_same, settled_same, turns_same}
 use Rattle.settlement.proofs.Joining.{two_are_one}
 use Rattle.settlement.proofs.adjusting.adjust.Goals as goal
 
 -- the checks on the open interval but for those of the book
-abbrev planned : Step → StampedCall → HouseState → List (Option FacilitySaid) → List (Option LoadSaid) → IntervalSaid → List Check
-planned step call h fs ls i = adjusting_stamp step call i ++ check 15 (not (inside balance_range (h.pending +ℤ sum accounts (adjusts step h i fs ls)))) ∷ []
+abbrev planned : Correction → StampedCall → HouseState → (IntervalSaid → ℕ → ℤ) → IntervalSaid → List Check
+planned step call h adds i = adjusting_stamp step call i ++ pending_check h (adds i) ∷ []
 
-numbered : (b : Bool) (step : Step) (call : StampedCall) (h : HouseState) (fs : List (Option FacilitySaid)) (ls : List (Option LoadSaid)) (i : IntervalSaid) → Numbered (check 1 b ∷ planned step call h fs ls i)
-numbered b step call h fs ls i = (lit< tt, (lit< tt, (lit< tt, (lit< tt, (lit< tt, tt)))))
+numbered : (b : Bool) (step : Correction) (call : StampedCall) (h : HouseState) (adds : IntervalSaid → ℕ → ℤ) (i : IntervalSaid) → Numbered (check 1 b ∷ planned step call h adds i)
+numbered b step call h adds i = (lit< tt, (lit< tt, (lit< tt, (lit< tt, (lit< tt, tt)))))
 
 -- a refusal before the book is asked
 early : (e : Refusal) (b : Bool) (o : Option IntervalSaid) (p s : IntervalSaid → List Check) → refusal_number e ≡ first_met (check 1 b ∷ if_open o p) → refusal_number e ≡ first_met (check 1 b ∷ if_open o (λ i. p i ++ s i))
@@ -40,34 +39,32 @@ some_same i j e = cc
 
 pub returns-in_err-plan : goal.returns-in_err-plan
 returns-in_err-plan g c =
-    let step = c.args.step in
+    let step = c.args.correction in
     let call = c.args.call.now in
     let h = house_says c.args.house.now in
     let is = interval_rows c.args.intervals.now in
-    let fs = facility_rows c.args.facilities.now in
-    let ls = load_rows c.args.loads.now in
+    let adds = adjusts_by step h c.args.readings.now in
     let held = g.B.Book.held c.args.book.now in
     let room = g.B.Book.room c.args.book.now in
     record {
       answer =
           handed_on c.from_residual.result c.in_err-plan.field-0.0 c.from_residual.ensures.1
-          ∙ early c.in_err-plan.field-0.0 (not (is_stamped call)) (open_at is (stamped_key call)) (planned step call h fs ls) (λ i. statement_checks held room (adjusts step h i fs ls)) c.in_err-plan.ensures.answer;
+          ∙ early c.in_err-plan.field-0.0 (not (is_stamped call)) (open_at is (stamped_key call)) (planned step call h adds) (λ i. statement_checks held room (adds i)) c.in_err-plan.ensures.answer;
       intervals = search rules;
       house = search rules;
       book = search rules;
       turns = search rules;
       conditions = λ k x. x;
-      joined = λ j. two_are_one h.operator j fs ls;
+      joined = λ j. two_are_one h.operator j (facility_rows c.args.readings.now.facilities.now) (load_rows c.args.readings.now.loads.now);
     }
 
 pub returns-in_err-post_statement : goal.returns-in_err-post_statement
 returns-in_err-post_statement g c =
-    let step = c.args.step in
+    let step = c.args.correction in
     let call = c.args.call.now in
     let h = house_says c.args.house.now in
     let is = interval_rows c.args.intervals.now in
-    let fs = facility_rows c.args.facilities.now in
-    let ls = load_rows c.args.loads.now in
+    let adds = adjusts_by step h c.args.readings.now in
     let held = g.B.Book.held c.args.book.now in
     let room = g.B.Book.room c.args.book.now in
     let plan = c.in_ok-plan.ensures in
@@ -77,24 +74,23 @@ returns-in_err-post_statement g c =
       answer =
           handed_on c.from_residual-in_err-post_statement.result c.in_err-post_statement.field-0.0 c.from_residual-in_err-post_statement.ensures.1
           ∙ c.in_err-post_statement.ensures.answer
-          ∙ checks_same amount (adjusts step h i fs ls) plan.planned.amounts held room
-          ∙ past_plan (not (is_stamped call)) (open_at is (stamped_key call)) i (planned step call h fs ls) (λ j. statement_checks held room (adjusts step h j fs ls)) plan.planned.opened (numbered (not (is_stamped call)) step call h fs ls i) plan.answer;
+          ∙ checks_same amount (adds i) plan.planned.amounts held room
+          ∙ past_plan (not (is_stamped call)) (open_at is (stamped_key call)) i (planned step call h adds) (λ j. statement_checks held room (adds j)) plan.planned.opened (numbered (not (is_stamped call)) step call h adds i) plan.answer;
       intervals = search rules;
       house = search rules;
       book = search rules;
       turns = search rules;
       conditions = c.in_err-post_statement.ensures.conditions;
-      joined = λ j. two_are_one h.operator j fs ls;
+      joined = λ j. two_are_one h.operator j (facility_rows c.args.readings.now.facilities.now) (load_rows c.args.readings.now.loads.now);
     }
 
 pub returns : goal.returns
 returns g c =
-    let step = c.args.step in
+    let step = c.args.correction in
     let call = c.args.call.now in
     let h = house_says c.args.house.now in
     let is = interval_rows c.args.intervals.now in
-    let fs = facility_rows c.args.facilities.now in
-    let ls = load_rows c.args.loads.now in
+    let adds = adjusts_by step h c.args.readings.now in
     let held = g.B.Book.held c.args.book.now in
     let room = g.B.Book.room c.args.book.now in
     let plan = c.in_ok-plan.ensures in
@@ -105,12 +101,12 @@ returns g c =
     record {
       answer =
           posted.answer
-          ∙ checks_same amount (adjusts step h i fs ls) plan.planned.amounts held room
-          ∙ past_plan (not (is_stamped call)) (open_at is (stamped_key call)) i (planned step call h fs ls) (λ j. statement_checks held room (adjusts step h j fs ls)) plan.planned.opened (numbered (not (is_stamped call)) step call h fs ls i) plan.answer;
-      intervals = ap interval_rows c.write_interval.ensures ∙ plan.intervals;
-      house = λ j e. plan.planned.house ∙ ap (λ k. adjusted_house step h k fs ls) (some_same i j (sym plan.planned.opened ∙ e));
-      book = λ j e. subst (λ k. Settled held room (adjusts step h k fs ls) (g.B.Book.held new) (g.B.Book.room new)) (some_same i j (sym plan.planned.opened ∙ e)) (settled_same amount (adjusts step h i fs ls) plan.planned.amounts held room _ _ posted.accepted);
-      turns = λ j e. subst (λ k. InTurn g.B.Book.held g.B.Book.room g.B.Book.takes (adjusts step h k fs ls) accounts c.args.book.now new) (some_same i j (sym plan.planned.opened ∙ e)) (turns_same amount (adjusts step h i fs ls) plan.planned.amounts _ _ _ accounts _ _ (omega arith) posted.turns);
+          ∙ checks_same amount (adds i) plan.planned.amounts held room
+          ∙ past_plan (not (is_stamped call)) (open_at is (stamped_key call)) i (planned step call h adds) (λ j. statement_checks held room (adds j)) plan.planned.opened (numbered (not (is_stamped call)) step call h adds i) plan.answer;
+      intervals = ap interval_rows c.write.ensures ∙ plan.intervals;
+      house = λ j e. plan.planned.house ∙ ap (λ k. adjusted_house h (adds k)) (some_same i j (sym plan.planned.opened ∙ e));
+      book = λ j e. subst (λ k. Settled held room (adds k) (g.B.Book.held new) (g.B.Book.room new)) (some_same i j (sym plan.planned.opened ∙ e)) (settled_same amount (adds i) plan.planned.amounts held room _ _ posted.accepted);
+      turns = λ j e. subst (λ k. InTurn g.B.Book.held g.B.Book.room g.B.Book.takes (adds k) accounts c.args.book.now new) (some_same i j (sym plan.planned.opened ∙ e)) (turns_same amount (adds i) plan.planned.amounts _ _ _ accounts _ _ (omega arith) posted.turns);
       conditions = posted.conditions;
-      joined = λ j. two_are_one h.operator j fs ls;
+      joined = λ j. two_are_one h.operator j (facility_rows c.args.readings.now.facilities.now) (load_rows c.args.readings.now.loads.now);
     }

@@ -8,13 +8,13 @@ use Rattle.book.proofs.Amounts.{checks_same, settled_same, turns_same}
 use Rattle.figures.specs.Settled.{LinesAre}
 use Rattle.formulas.specs.Basis.{Basis}
 use Rattle.formulas.specs.Figures.{nasc_of, settling_checks}
-use Rattle.rows.specs.Meaning.{IntervalSaid, contract_rows, facility_rows, interval_rows, load_rows, vesting_rows}
+use Rattle.rows.specs.Meaning.{IntervalSaid, interval_rows}
 use Rattle.house.specs.Calls.{is_stamp}
 use Rattle.house.specs.Open.{check, if_open, open_at}
 use Rattle.house.specs.State.{house_says}
 use Rattle.house.proofs.Answering.{Numbered, passes, stops}
 use Rattle.statement.specs.Finals.{final_stamp, statement_key}
-use Rattle.statement.specs.Gathered.{basis_in}
+use Rattle.statement.specs.Gathered.{basis_by}
 use Rattle.statement.specs.Statements.{belongs}
 use Rattle.statement.proofs.Lines.{begin_alike}
 use Rattle.statement.proofs.finalising.finalise.Goals as goal
@@ -48,7 +48,7 @@ returns-in-Err g c =
     let h = house_says c.args.house.now in
     let is = interval_rows c.args.intervals.now in
     let n = length c.args.lines.now in
-    let basis : IntervalSaid → Basis = λ i. basis_in h i (facility_rows c.args.facilities.now) (load_rows c.args.loads.now) (contract_rows c.args.contracts.now) (vesting_rows c.args.vestings.now) in
+    let basis = basis_by h c.args.rows.now in
     let held = g.B.Book.held c.args.book.now in
     let room = g.B.Book.room c.args.book.now in
     record {
@@ -70,7 +70,7 @@ returns-in-Err-post_statement g c =
     let h = house_says c.args.house.now in
     let is = interval_rows c.args.intervals.now in
     let n = length c.args.lines.now in
-    let basis : IntervalSaid → Basis = λ i. basis_in h i (facility_rows c.args.facilities.now) (load_rows c.args.loads.now) (contract_rows c.args.contracts.now) (vesting_rows c.args.vestings.now) in
+    let basis = basis_by h c.args.rows.now in
     let held = g.B.Book.held c.args.book.now in
     let room = g.B.Book.room c.args.book.now in
     let plan = c.in-Ok.ensures in
@@ -97,7 +97,7 @@ returns g c =
     let h = house_says c.args.house.now in
     let is = interval_rows c.args.intervals.now in
     let n = length c.args.lines.now in
-    let basis : IntervalSaid → Basis = λ i. basis_in h i (facility_rows c.args.facilities.now) (load_rows c.args.loads.now) (contract_rows c.args.contracts.now) (vesting_rows c.args.vestings.now) in
+    let basis = basis_by h c.args.rows.now in
     let held = g.B.Book.held c.args.book.now in
     let room = g.B.Book.room c.args.book.now in
     let plan = c.in-Ok.ensures in
@@ -109,7 +109,7 @@ returns g c =
     let new = c.post_statement.new.book in
     record {
       answer = posted.answer ∙ checks_same amount (nasc_of (basis i)) same held room ∙ past_plan (is_stamp d m) (not (belongs st h.number is)) (open_at is (statement_key st)) i (rest d m n basis) (λ j. statement_checks held room (nasc_of (basis j))) found (numbered (not (is_stamp d m)) (not (belongs st h.number is)) d m n basis i) plan.answer;
-      intervals = ap interval_rows c.write_interval.ensures ∙ plan.intervals;
+      intervals = ap interval_rows c.write.ensures ∙ plan.intervals;
       house = c.with_nothing_pending.ensures;
       lines = record {
         written = λ j e. begin_alike (basis j) c.in-Ok.plan.figures.lines c.write_lines.new.lines c.write_lines.ensures.first (subst (λ k. LinesAre (basis k) c.in-Ok.plan.figures.lines) (some_same i j (sym found ∙ e)) plan.figures.1.1.lines);

@@ -10,7 +10,7 @@ use Rattle.formulas.specs.Basis.{Basis}
 use Rattle.formulas.specs.Figures.{heua_of, heur_of, is_0, settling_checks, total_load, unfounded}
 use Rattle.formulas.specs.Sums.{some_of}
 use Rattle.register.proofs.Rows.{lookup_carries}
-use Rattle.rows.specs.Meaning.{IntervalSaid, contract_rows, facility_rows, interval_named, interval_rows, interval_says, load_rows, vesting_rows}
+use Rattle.rows.specs.Meaning.{IntervalSaid, interval_named, interval_rows, interval_says}
 use Rattle.rows.specs.declared.interval.Interval.{Interval}
 use Rattle.rows.specs.declared.phase.Phase.TheVariants.{Final}
 use Rattle.house.specs.Calls.{is_stamp}
@@ -19,7 +19,7 @@ use Rattle.house.specs.State.{house_says, key_of}
 use Rattle.house.proofs.Answering.{handed_on, passes, stops, within}
 use Rattle.house.proofs.Given.{as_given}
 use Rattle.statement.specs.Finals.{final_stamp, finalised, statement_key}
-use Rattle.statement.specs.Gathered.{basis_in}
+use Rattle.statement.specs.Gathered.{basis_by}
 use Rattle.statement.specs.Statements.{belongs}
 use Rattle.statement.proofs.finalising.plan_final.Goals as goal
 
@@ -72,7 +72,7 @@ returns-in_err-check_stamp c =
     let st = c.args.statement.now in
     let h = house_says c.args.house.now in
     let is = interval_rows c.args.intervals.now in
-    let basis : IntervalSaid → Basis = λ i. basis_in h i (facility_rows c.args.facilities.now) (load_rows c.args.loads.now) (contract_rows c.args.contracts.now) (vesting_rows c.args.vestings.now) in
+    let basis = basis_by h c.args.rows.now in
     let good : true ≡ is_stamp d m = search rules in
     let days : pos c.in_ok-stamp.stamp.days ≡ d = search rules in
     let minute : pos c.in_ok-stamp.stamp.minute ≡ m = search rules in
@@ -97,7 +97,7 @@ returns-in_err-check_lines c =
     let st = c.args.statement.now in
     let h = house_says c.args.house.now in
     let is = interval_rows c.args.intervals.now in
-    let basis : IntervalSaid → Basis = λ i. basis_in h i (facility_rows c.args.facilities.now) (load_rows c.args.loads.now) (contract_rows c.args.contracts.now) (vesting_rows c.args.vestings.now) in
+    let basis = basis_by h c.args.rows.now in
     let good : true ≡ is_stamp d m = search rules in
     let days : pos c.in_ok-stamp.stamp.days ≡ d = search rules in
     let minute : pos c.in_ok-stamp.stamp.minute ≡ m = search rules in
@@ -123,7 +123,7 @@ returns-in_err-figures c =
     let st = c.args.statement.now in
     let h = house_says c.args.house.now in
     let is = interval_rows c.args.intervals.now in
-    let basis : IntervalSaid → Basis = λ i. basis_in h i (facility_rows c.args.facilities.now) (load_rows c.args.loads.now) (contract_rows c.args.contracts.now) (vesting_rows c.args.vestings.now) in
+    let basis = basis_by h c.args.rows.now in
     let good : true ≡ is_stamp d m = search rules in
     let days : pos c.in_ok-stamp.stamp.days ≡ d = search rules in
     let minute : pos c.in_ok-stamp.stamp.minute ≡ m = search rules in
@@ -150,7 +150,7 @@ returns-in_err-row c =
     let st = c.args.statement.now in
     let h = house_says c.args.house.now in
     let is = interval_rows c.args.intervals.now in
-    let basis : IntervalSaid → Basis = λ i. basis_in h i (facility_rows c.args.facilities.now) (load_rows c.args.loads.now) (contract_rows c.args.contracts.now) (vesting_rows c.args.vestings.now) in
+    let basis = basis_by h c.args.rows.now in
     let good : true ≡ is_stamp d m = search rules in
     let days : pos c.in_ok-stamp.stamp.days ≡ d = search rules in
     let minute : pos c.in_ok-stamp.stamp.minute ≡ m = search rules in
@@ -169,7 +169,7 @@ returns c =
     let st = c.args.statement.now in
     let h = house_says c.args.house.now in
     let is = interval_rows c.args.intervals.now in
-    let basis : IntervalSaid → Basis = λ i. basis_in h i (facility_rows c.args.facilities.now) (load_rows c.args.loads.now) (contract_rows c.args.contracts.now) (vesting_rows c.args.vestings.now) in
+    let basis = basis_by h c.args.rows.now in
     let good : true ≡ is_stamp d m = search rules in
     let days : pos c.in_ok-stamp.stamp.days ≡ d = search rules in
     let minute : pos c.in_ok-stamp.stamp.minute ≡ m = search rules in

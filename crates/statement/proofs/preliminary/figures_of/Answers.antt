@@ -12,7 +12,7 @@ returns c =
     let prices = c.terms-terms.ensures.prices in
     let standing = c.terms-terms.ensures.house in
     let same = c.inputs_of-inputs.ensures
-    ∙ basis_said c.terms-terms.result (house_says c.args.house.now) c.args.interval.now c.args.facilities.now c.args.loads.now c.args.contracts.now c.args.vestings.now
+    ∙ basis_said c.terms-terms.result (house_says c.args.house.now) c.args.interval.now c.args.rows.now.readings.facilities.now c.args.rows.now.readings.loads.now c.args.rows.now.contracts.now c.args.rows.now.vestings.now
     (ap (λ p. p.0) prices.0) (ap (λ p. p.0) prices.1) standing.2 standing.0 standing.1 in
     record {
       answer = c.settle.ensures.number ∙ ap (λ i. first_met (settling_checks i)) same;

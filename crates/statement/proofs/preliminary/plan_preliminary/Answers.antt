@@ -8,13 +8,13 @@ use Rattle.formulas.specs.Basis.{Basis}
 use Rattle.formulas.specs.Figures.{settling_checks}
 use Rattle.calls.specs.declared.StampedCall.{StampedCall}
 use Rattle.register.proofs.Rows.{lookup_carries}
-use Rattle.rows.specs.Meaning.{IntervalSaid, contract_rows, facility_rows, interval_named, interval_rows, interval_says, load_rows, vesting_rows}
+use Rattle.rows.specs.Meaning.{IntervalSaid, interval_named, interval_rows, interval_says}
 use Rattle.rows.specs.declared.phase.Phase.TheVariants.{Preliminary}
 use Rattle.house.specs.Open.{check, if_open, moved_to, open_at, put_row}
 use Rattle.house.specs.State.{house_says, key_of}
 use Rattle.house.proofs.Answering.{handed_on, passes, stops}
 use Rattle.house.proofs.Plans.{moved_is, not_open, past_open}
-use Rattle.statement.specs.Gathered.{basis_in}
+use Rattle.statement.specs.Gathered.{basis_by}
 use Rattle.statement.specs.Statements.{is_stamped, preliminary_stamp, stamped_key}
 use Rattle.statement.proofs.Stamps.{at_stamp}
 use Rattle.statement.proofs.preliminary.plan_preliminary.Goals as goal
@@ -41,7 +41,7 @@ returns-in_err-taken c =
     let call = c.args.call.now in
     let h = house_says c.args.house.now in
     let is = interval_rows c.args.intervals.now in
-    let basis : IntervalSaid → Basis = λ i. basis_in h i (facility_rows c.args.facilities.now) (load_rows c.args.loads.now) (contract_rows c.args.contracts.now) (vesting_rows c.args.vestings.now) in
+    let basis = basis_by h c.args.rows.now in
     record {
       answer =
           handed_on c.from_residual.result c.in_err-taken.field-0.0 c.from_residual.ensures.1
@@ -57,7 +57,7 @@ returns-in_err-opened c =
     let call = c.args.call.now in
     let h = house_says c.args.house.now in
     let is = interval_rows c.args.intervals.now in
-    let basis : IntervalSaid → Basis = λ i. basis_in h i (facility_rows c.args.facilities.now) (load_rows c.args.loads.now) (contract_rows c.args.contracts.now) (vesting_rows c.args.vestings.now) in
+    let basis = basis_by h c.args.rows.now in
     record {
       answer =
           handed_on c.from_residual-in_err-opened.result c.in_err-opened.field-0.0 c.from_residual-in_err-opened.ensures.1
@@ -74,7 +74,7 @@ returns-in_err-check_stamp c =
     let call = c.args.call.now in
     let h = house_says c.args.house.now in
     let is = interval_rows c.args.intervals.now in
-    let basis : IntervalSaid → Basis = λ i. basis_in h i (facility_rows c.args.facilities.now) (load_rows c.args.loads.now) (contract_rows c.args.contracts.now) (vesting_rows c.args.vestings.now) in
+    let basis = basis_by h c.args.rows.now in
     let i = interval_says c.in_ok-opened.opened.row in
     let found : open_at is (stamped_key call) ≡ Some i = ap (open_at is) (sym c.in_ok-taken.ensures.half_hour) ∙ c.in_ok-opened.ensures.found in
     let stamp = c.in_ok-taken.ensures.stamp in
@@ -95,7 +95,7 @@ returns-in_err-check_lines c =
     let call = c.args.call.now in
     let h = house_says c.args.house.now in
     let is = interval_rows c.args.intervals.now in
-    let basis : IntervalSaid → Basis = λ i. basis_in h i (facility_rows c.args.facilities.now) (load_rows c.args.loads.now) (contract_rows c.args.contracts.now) (vesting_rows c.args.vestings.now) in
+    let basis = basis_by h c.args.rows.now in
     let i = interval_says c.in_ok-opened.opened.row in
     let found : open_at is (stamped_key call) ≡ Some i = ap (open_at is) (sym c.in_ok-taken.ensures.half_hour) ∙ c.in_ok-opened.ensures.found in
     let stamp = c.in_ok-taken.ensures.stamp in
@@ -117,7 +117,7 @@ returns-in_err-figures c =
     let call = c.args.call.now in
     let h = house_says c.args.house.now in
     let is = interval_rows c.args.intervals.now in
-    let basis : IntervalSaid → Basis = λ i. basis_in h i (facility_rows c.args.facilities.now) (load_rows c.args.loads.now) (contract_rows c.args.contracts.now) (vesting_rows c.args.vestings.now) in
+    let basis = basis_by h c.args.rows.now in
     let i = interval_says c.in_ok-opened.opened.row in
     let found : open_at is (stamped_key call) ≡ Some i = ap (open_at is) (sym c.in_ok-taken.ensures.half_hour) ∙ c.in_ok-opened.ensures.found in
     let stamp = c.in_ok-taken.ensures.stamp in
@@ -140,7 +140,7 @@ returns c =
     let call = c.args.call.now in
     let h = house_says c.args.house.now in
     let is = interval_rows c.args.intervals.now in
-    let basis : IntervalSaid → Basis = λ i. basis_in h i (facility_rows c.args.facilities.now) (load_rows c.args.loads.now) (contract_rows c.args.contracts.now) (vesting_rows c.args.vestings.now) in
+    let basis = basis_by h c.args.rows.now in
     let i = interval_says c.in_ok-opened.opened.row in
     let found : open_at is (stamped_key call) ≡ Some i = ap (open_at is) (sym c.in_ok-taken.ensures.half_hour) ∙ c.in_ok-opened.ensures.found in
     let stamp = c.in_ok-taken.ensures.stamp in

@@ -8,7 +8,7 @@ returns c =
     let plan = c.in_ok-plan.ensures in
     record {
       answer = plan.answer;
-      intervals = ap interval_rows c.write_interval.ensures ∙ plan.intervals;
+      intervals = ap interval_rows c.write.ensures ∙ plan.intervals;
       lines = record {
         written = λ i e. begin_alike _ c.in_ok-plan.plan.figures.lines c.write_lines.new.lines c.write_lines.ensures.first (plan.figures i e).lines;
         beyond = c.write_lines.ensures.beyond;
