@@ -2,8 +2,10 @@
 // run.
 #![tactic(auto)]
 
+ghost use Rattle.std.specs.Prelude.{◌≤◌, length};
+
 use anyhow::anyhow;
-use gather::inputs_of;
+use gather::{Readings, Rows, inputs_of};
 use records::{Inputs, Terms};
 use register::register::Register;
 use rows::contract::ContractRow;
@@ -75,42 +77,35 @@ fn put_last(rows: &mut [Option<FacilityReading>], count: u32) {
     }
 }
 
-fn held<T>(slots: &[Option<T>]) -> u64 {
-    let mut count = 0u64;
-    for slot in slots {
-        if slot.is_some() {
-            count = count.saturating_add(1);
-        }
-    }
-    count
+// How many places of a list are taken: a line of the library's, as the other program has it.
+fn held<T>(slots: &[Option<T>]) -> usize
+    ensures { result ≤ length slots.now }
+{
+    slots.iter().filter(|slot| slot.is_some()).count()
 }
 
 // How many rows the inputs were gathered from, so that no gathering is left out as unused.
-fn used(inputs: &Inputs) -> u64 {
-    let mut count = held(&inputs.facilities)
-        .saturating_add(held(&inputs.loads))
-        .saturating_add(held(&inputs.contracts));
-    for tranches in &inputs.vestings {
-        if tranches.base.is_some() {
-            count = count.saturating_add(1);
-        }
-    }
-    count
+fn used(inputs: &Inputs) -> usize
+    ensures { result ≤ 384 }
+{
+    let bases = inputs.vestings.map(|tranches| tranches.base);
+    held(&inputs.facilities) + held(&inputs.loads) + held(&inputs.contracts) + held(&bases)
 }
 
 // Gathers the first half hours in turn.
-fn gather_each(terms: &Terms, all: &Registers) -> u64 {
-    let mut count = 0u64;
+fn gather_each(terms: &Terms, all: &Registers) -> usize {
+    let rows = Rows {
+        readings: Readings {
+            facilities: &all.facilities,
+            loads: &all.loads,
+        },
+        contracts: &all.contracts,
+        vestings: &all.vestings,
+    };
+    let mut count: usize = 0;
     for k in 0..TIMES {
         if let Some(at) = half_hour(k % 8) {
-            let inputs = inputs_of(
-                terms,
-                at,
-                &all.facilities,
-                &all.loads,
-                &all.contracts,
-                &all.vestings,
-            );
+            let inputs = inputs_of(terms, at, &rows);
             count = count.saturating_add(used(&inputs));
         }
     }

@@ -1,7 +1,8 @@
 // What is gathered of a half hour: the first row of each key, and how far a correction moved it.
-use gather::{first_moves_of, inputs_of, second_moves_of};
+use gather::{Readings, Rows, inputs_of, moves_of};
 use records::Terms;
 use rows::contract::ContractRow;
+use rows::correction::Correction;
 use rows::facility::FacilityReading;
 use rows::interval::Interval;
 use rows::load::LoadReading;
@@ -24,24 +25,23 @@ fn the_first_row_of_a_key_is_gathered(rt: HostRuntime) -> Result<(), Fail> {
     let contracts = [Some(ContractRow::new(h, 64, 1, 2, 70, 0, 0)?)];
     let vestings = [Some(VestingRow::new(h, 96, 2, 0, 80)?)];
     let terms = Terms::new(100, 10, 4, 5)?;
-    let inputs = inputs_of(&terms, h, &facilities, &loads, &contracts, &vestings);
+    let rows = Rows {
+        readings: Readings {
+            facilities: &facilities,
+            loads: &loads,
+        },
+        contracts: &contracts,
+        vestings: &vestings,
+    };
+    let inputs = inputs_of(&terms, h, &rows);
     let late = &inputs.facilities[1];
     assert!(rt; late.is_none());
-    let facility = &inputs.facilities[0];
-    let Some(facility) = *facility else {
-        return Err(Fail::new("no facility"));
+    let (Some(facility), Some(load)) = (inputs.facilities[0], inputs.loads[1]) else {
+        return Err(Fail::new("no reading"));
     };
-    let load = &inputs.loads[1];
-    let Some(load) = *load else {
-        return Err(Fail::new("no load"));
-    };
-    let contract = &inputs.contracts[63];
-    let Some(contract) = *contract else {
-        return Err(Fail::new("no contract"));
-    };
-    let tranches = &inputs.vestings[95];
-    let Some(vesting) = tranches.second else {
-        return Err(Fail::new("no vesting row"));
+    let tranches = inputs.vestings[95];
+    let (Some(contract), Some(vesting)) = (inputs.contracts[63], tranches.second) else {
+        return Err(Fail::new("no contract or no vesting row"));
     };
     assert!(rt; facility.ieq.0 == 20 && load.wfq.0 == 60);
     assert!(rt; contract.baq.0 == 70 && vesting.quantity.0 == 80);
@@ -54,11 +54,18 @@ fn a_second_move_starts_from_the_first_correction(rt: HostRuntime) -> Result<(),
     let first = FacilityReading::new(h, 1, 1, 0, 130)?;
     let second = FacilityReading::new(h, 1, 1, 0, 120)?;
     let read = FacilityReading::new(h, 1, 1, 0, 100)?;
-    let facilities = [Some(read.with_first(&first).with_second(&second))];
+    let corrected = read
+        .with(Correction::First, &first)
+        .with(Correction::Second, &second);
+    let facilities = [Some(corrected)];
     let loads = [Some(LoadReading::new(h, 2, 50, 60)?)];
     let interval = Interval::open(h, 100, 10)?;
-    let by_first = first_moves_of(&interval, 5, &facilities, &loads);
-    let by_second = second_moves_of(&interval, 5, &facilities, &loads);
+    let readings = Readings {
+        facilities: &facilities,
+        loads: &loads,
+    };
+    let by_first = moves_of(Correction::First, &interval, 5, &readings);
+    let by_second = moves_of(Correction::Second, &interval, 5, &readings);
     let one = &by_first.facilities[0];
     let Some(one) = *one else {
         return Err(Fail::new("no first move"));

@@ -1,3 +1,3 @@
-mod Blanks
-mod Cuts
+mod Fields
+mod Trimmed
 mod Words

@@ -1,5 +1,6 @@
 -- A line without the blanks around it, its fields between commas, and the numbers that they write.
 use Rattle.std.specs.Prelude.{ℕ, Bool, cond, ◌||◌, List, [], ◌∷◌, reverse, ℤ, Some, None, Option, ◌==◌}
+use Rattle.std.specs.List.{slice_split}
 use Rattle.lines.specs.Numerals.{written_number}
 
 -- whether a byte is dropped around a line: a blank, a tab or a carriage return
@@ -19,15 +20,9 @@ without_last_blanks cs = reverse (without_first_blanks (reverse cs))
 abbrev pub trimmed_line : List ℕ → List ℕ
 trimmed_line cs = without_last_blanks (without_first_blanks cs)
 
--- the fields with one byte more at the front of the first
-abbrev pub first_with : ℕ → List (List ℕ) → List (List ℕ)
-first_with c [] = (c ∷ []) ∷ []
-first_with c (f ∷ fs) = (c ∷ f) ∷ fs
-
 -- the fields of a line: what stands before, between and after its commas
 abbrev pub fields_of : List ℕ → List (List ℕ)
-fields_of [] = [] ∷ []
-fields_of (c ∷ cs) = cond (c == 44) ([] ∷ fields_of cs) (first_with c (fields_of cs))
+fields_of cs = slice_split (λ c. c == 44) cs
 
 -- a number before others, where both are there
 abbrev pub before : Option ℤ → Option (List ℤ) → Option (List ℤ)

@@ -1,4 +1,3 @@
 pub mod Fields
-pub mod Held
 pub mod Lines
 pub mod Table

@@ -2,10 +2,9 @@
 // any length has an answer.
 #![tactic(auto)]
 
-mod fields;
+pub mod blanks;
+pub mod call;
 pub mod line;
-mod numbers;
-pub mod said;
 mod table;
 #[cfg(test)]
 mod tests;

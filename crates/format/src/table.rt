@@ -1,206 +1,175 @@
 // The call that each word makes of the numbers after it.
 ghost use Rattle.std.specs.Prelude.{◌≡◌};
-ghost use Rattle.std.specs.Str.{bytes_eq};
 ghost use Rattle.format.specs.Table.{by_word, contract_line, each_its_own, facility_line, house_line, interval_line, load_line, npsc_line, participants_of, preliminary_line, vesting_line, withdraw_line};
 
-use crate::said::Said;
+use crate::call::Call;
 use calls::{
     ContractCall, FacilityCall, HalfHourCall, HouseCall, IntervalCall, LoadCall, StampedCall,
     VestingCall,
 };
+use std::array;
 use units::ACCOUNTS;
 
 // Each account as its own participant.
 fn own_participants() -> [i64; ACCOUNTS]
     ensures { result ≡ each_its_own }
 {
-    let mut all = [0; ACCOUNTS];
-    for k in 0..ACCOUNTS {
-        all[k] = k as i64 + 1;
-    }
-    all
+    array::from_fn(|k| k as i64 + 1)
 }
 
 // Each account's participant as given; where none is given, each account is its own.
 fn participants(given: &[i64]) -> Option<[i64; ACCOUNTS]>
     ensures { result ≡ participants_of given.now }
 {
-    if given.is_empty() {
-        return Some(own_participants());
+    match given {
+        [] => Some(own_participants()),
+        _ => given.try_into().ok(),
     }
-    if given.len() != ACCOUNTS {
-        return None;
-    }
-    let mut all = [0; ACCOUNTS];
-    all.copy_from_slice(given);
-    Some(all)
 }
 
-fn house(numbers: &[i64]) -> Said
+fn house(numbers: &[i64]) -> Option<Call>
     ensures { result ≡ house_line numbers.now }
 {
-    let [number, counterparty, operator, given @ ..] = numbers else {
-        return Said::Malformed;
+    let &[number, counterparty, operator, ref given @ ..] = numbers else {
+        return None;
     };
-    match participants(given) {
-        Some(participants) => Said::House(HouseCall {
-            number: *number,
-            counterparty: *counterparty,
-            operator: *operator,
-            participants,
-        }),
-        None => Said::Malformed,
-    }
+    Some(Call::House(HouseCall {
+        number,
+        counterparty,
+        operator,
+        participants: participants(given)?,
+    }))
 }
 
-fn interval(numbers: &[i64]) -> Said
+fn interval(numbers: &[i64]) -> Option<Call>
     ensures { result ≡ interval_line numbers.now }
 {
-    let [day, interval, usep, rate] = numbers else {
-        return Said::Malformed;
+    let &[day, interval, usep, rate] = numbers else {
+        return None;
     };
-    Said::Interval(IntervalCall {
-        day: *day,
-        interval: *interval,
-        usep: *usep,
-        rate: *rate,
-    })
+    Some(Call::Interval(IntervalCall {
+        day,
+        interval,
+        usep,
+        rate,
+    }))
 }
 
-fn facility(numbers: &[i64]) -> Said
+fn facility(numbers: &[i64]) -> Option<Call>
     ensures { result ≡ facility_line numbers.now }
 {
-    let [day, interval, facility, account, mep, ieq, days, minute] = numbers else {
-        return Said::Malformed;
+    let &[day, interval, facility, account, mep, ieq, days, minute] = numbers else {
+        return None;
     };
-    Said::Facility(FacilityCall {
-        day: *day,
-        interval: *interval,
-        facility: *facility,
-        account: *account,
-        mep: *mep,
-        ieq: *ieq,
-        days: *days,
-        minute: *minute,
-    })
+    Some(Call::Facility(FacilityCall {
+        day,
+        interval,
+        facility,
+        account,
+        mep,
+        ieq,
+        days,
+        minute,
+    }))
 }
 
-fn load(numbers: &[i64]) -> Said
+fn load(numbers: &[i64]) -> Option<Call>
     ensures { result ≡ load_line numbers.now }
 {
-    let [day, interval, account, weq, wfq, days, minute] = numbers else {
-        return Said::Malformed;
+    let &[day, interval, account, weq, wfq, days, minute] = numbers else {
+        return None;
     };
-    Said::Load(LoadCall {
-        day: *day,
-        interval: *interval,
-        account: *account,
-        weq: *weq,
-        wfq: *wfq,
-        days: *days,
-        minute: *minute,
-    })
+    Some(Call::Load(LoadCall {
+        day,
+        interval,
+        account,
+        weq,
+        wfq,
+        days,
+        minute,
+    }))
 }
 
-fn contract(numbers: &[i64]) -> Said
+fn contract(numbers: &[i64]) -> Option<Call>
     ensures { result ≡ contract_line numbers.now }
 {
-    let [day, interval, contract, seller, buyer, baq, bwf, bif] = numbers else {
-        return Said::Malformed;
+    let &[day, interval, contract, seller, buyer, baq, bwf, bif] = numbers else {
+        return None;
     };
-    Said::Contract(ContractCall {
-        day: *day,
-        interval: *interval,
-        contract: *contract,
-        seller: *seller,
-        buyer: *buyer,
-        baq: *baq,
-        bwf: *bwf,
-        bif: *bif,
-    })
+    Some(Call::Contract(ContractCall {
+        day,
+        interval,
+        contract,
+        seller,
+        buyer,
+        baq,
+        bwf,
+        bif,
+    }))
 }
 
-fn vesting(numbers: &[i64]) -> Said
+fn vesting(numbers: &[i64]) -> Option<Call>
     ensures { result ≡ vesting_line numbers.now }
 {
-    let [day, interval, account, tranche, price, quantity] = numbers else {
-        return Said::Malformed;
+    let &[day, interval, account, tranche, price, quantity] = numbers else {
+        return None;
     };
-    Said::Vesting(VestingCall {
-        day: *day,
-        interval: *interval,
-        account: *account,
-        tranche: *tranche,
-        price: *price,
-        quantity: *quantity,
-    })
+    Some(Call::Vesting(VestingCall {
+        day,
+        interval,
+        account,
+        tranche,
+        price,
+        quantity,
+    }))
 }
 
-fn preliminary(numbers: &[i64]) -> Said
+fn preliminary(numbers: &[i64]) -> Option<Call>
     ensures { result ≡ preliminary_line numbers.now }
 {
-    let [day, interval, days, minute] = numbers else {
-        return Said::Malformed;
+    let &[day, interval, days, minute] = numbers else {
+        return None;
     };
-    Said::Preliminary(StampedCall {
-        day: *day,
-        interval: *interval,
-        days: *days,
-        minute: *minute,
-    })
+    Some(Call::Preliminary(StampedCall {
+        day,
+        interval,
+        days,
+        minute,
+    }))
 }
 
-fn withdraw(numbers: &[i64]) -> Said
+fn withdraw(numbers: &[i64]) -> Option<Call>
     ensures { result ≡ withdraw_line numbers.now }
 {
-    let [day, interval] = numbers else {
-        return Said::Malformed;
+    let &[day, interval] = numbers else {
+        return None;
     };
-    Said::Withdraw(HalfHourCall {
-        day: *day,
-        interval: *interval,
-    })
+    Some(Call::Withdraw(HalfHourCall { day, interval }))
 }
 
-fn npsc(numbers: &[i64]) -> Said
+fn npsc(numbers: &[i64]) -> Option<Call>
     ensures { result ≡ npsc_line numbers.now }
 {
-    let [participant] = numbers else {
-        return Said::Malformed;
+    let &[participant] = numbers else {
+        return None;
     };
-    Said::Npsc(*participant)
+    Some(Call::Npsc(participant))
 }
 
-// Whether a word is that one.
-fn is(word: &[u8], name: &[u8]) -> bool
-    ensures { result ≡ bytes_eq word.now name.now }
-{
-    word == name
-}
-
-// The call that the word makes of the numbers.
-pub(crate) fn called(word: &[u8], numbers: &[i64]) -> Said
+// The call that the word makes of the numbers; none where it is no word of the format, or they are not its numbers.
+pub(crate) fn called(word: &[u8], numbers: &[i64]) -> Option<Call>
     ensures { result ≡ by_word word.now numbers.now }
 {
-    if is(word, b"house") {
-        house(numbers)
-    } else if is(word, b"interval") {
-        interval(numbers)
-    } else if is(word, b"facility") {
-        facility(numbers)
-    } else if is(word, b"load") {
-        load(numbers)
-    } else if is(word, b"contract") {
-        contract(numbers)
-    } else if is(word, b"vesting") {
-        vesting(numbers)
-    } else if is(word, b"preliminary") {
-        preliminary(numbers)
-    } else if is(word, b"withdraw") {
-        withdraw(numbers)
-    } else if is(word, b"npsc") {
-        npsc(numbers)
-    } else {
-        Said::Malformed
+    match word {
+        b"house" => house(numbers),
+        b"interval" => interval(numbers),
+        b"facility" => facility(numbers),
+        b"load" => load(numbers),
+        b"contract" => contract(numbers),
+        b"vesting" => vesting(numbers),
+        b"preliminary" => preliminary(numbers),
+        b"withdraw" => withdraw(numbers),
+        b"npsc" => npsc(numbers),
+        _ => None,
     }
 }

@@ -1,20 +1,14 @@
 // Lines on examples.
+use crate::call::Call;
 use crate::line::said;
-use crate::said::Said;
 use std::test::Fail;
 
 fn is_malformed(line: &[u8]) -> bool {
-    match said(line) {
-        Said::Malformed => true,
-        _ => false,
-    }
+    said(line).is_err()
 }
 
 fn is_nothing(line: &[u8]) -> bool {
-    match said(line) {
-        Said::Nothing => true,
-        _ => false,
-    }
+    matches!(said(line), Ok(None))
 }
 
 #[test]
@@ -36,7 +30,7 @@ fn malformed_lines(rt: HostRuntime) {
 
 #[test]
 fn blanks_around_are_dropped(rt: HostRuntime) -> Result<(), Fail> {
-    let Said::Withdraw(call) = said(b"\t withdraw,12,-48 \r") else {
+    let Ok(Some(Call::Withdraw(call))) = said(b"\t withdraw,12,-48 \r") else {
         return Err(Fail::new("no withdrawal"));
     };
     assert_eq!(rt; call.day, 12);
@@ -50,11 +44,11 @@ const HOUSE: &[u8] =
 
 #[test]
 fn participants_of_a_house(rt: HostRuntime) -> Result<(), Fail> {
-    let Said::House(own) = said(b"house,7,1,2") else {
+    let Ok(Some(Call::House(own))) = said(b"house,7,1,2") else {
         return Err(Fail::new("no house"));
     };
     assert_eq!(rt; own.participants[95], 96);
-    let Said::House(given) = said(HOUSE) else {
+    let Ok(Some(Call::House(given))) = said(HOUSE) else {
         return Err(Fail::new("no house of 96"));
     };
     assert_eq!(rt; given.number, 7);

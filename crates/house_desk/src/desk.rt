@@ -1,20 +1,21 @@
 // The desk of an open house: its registers, the lines that were written last, and the statements that it has yet to end.
 use crate::answer::Answer;
 use crate::held::place_held;
-use crate::input::{after_line, first_line};
-use crate::print::{print_answer, print_lines, print_withdrawn};
+use crate::print::{print_lines, print_withdrawn};
 use calls::{
     ContractCall, FacilityCall, HalfHourCall, IntervalCall, LoadCall, StampedCall, VestingCall,
 };
 use figures::Line;
+use format::call::Call;
 use format::line::said;
-use format::said::Said;
+use gather::{Readings, Rows};
 use house::{House, read_facility, read_load, take_contract};
+use lines::line::Lines;
 use rows::{ContractRow, FacilityReading, Interval, LoadReading, VestingRow};
 use statement::{Statement, npsc, withdraw, write_preliminary};
 use std::alloc::{AllocError, Global};
 use std::io;
-use units::{ACCOUNTS, Money};
+use units::ACCOUNTS;
 
 // The rows that each register has room for.
 const ROWS: usize = 512;
@@ -31,21 +32,6 @@ pub(crate) struct Desk {
     lines: Option<[Line; ACCOUNTS]>,
     // in the order in which they were handed out
     statements: Vec<Statement>,
-}
-
-// A line to be written over.
-fn blank() -> Line {
-    let nothing = Money(0);
-    Line {
-        account: 1,
-        gesc: nothing,
-        lesd: nothing,
-        bsc: nothing,
-        vcsc: nothing,
-        fee: nothing,
-        heuc: nothing,
-        nasc: nothing,
-    }
 }
 
 impl Desk {
@@ -68,68 +54,67 @@ impl Desk {
         })
     }
 
+    // A method for each call: each hands over other registers.
     fn interval(&mut self, call: &IntervalCall) -> Answer {
         let intervals = self.intervals.as_mut_slice();
-        Answer::of(self.house.open_interval(intervals, call))
+        self.house.open_interval(intervals, call).into()
     }
 
     fn facility(&mut self, call: &FacilityCall) -> Answer {
         let intervals = self.intervals.as_mut_slice();
         let facilities = self.facilities.as_mut_slice();
-        Answer::of(read_facility(intervals, facilities, call))
+        read_facility(intervals, facilities, call).into()
     }
 
     fn load(&mut self, call: &LoadCall) -> Answer {
         let intervals = self.intervals.as_mut_slice();
         let loads = self.loads.as_mut_slice();
-        Answer::of(read_load(intervals, loads, call))
+        read_load(intervals, loads, call).into()
     }
 
     fn contract(&mut self, call: &ContractCall) -> Answer {
         let intervals = self.intervals.as_slice();
         let contracts = self.contracts.as_mut_slice();
-        Answer::of(take_contract(intervals, contracts, call))
+        take_contract(intervals, contracts, call).into()
     }
 
     fn vesting(&mut self, call: &VestingCall) -> Answer {
         let intervals = self.intervals.as_slice();
         let vestings = self.vestings.as_mut_slice();
-        Answer::of(self.house.take_vesting(intervals, vestings, call))
+        self.house.take_vesting(intervals, vestings, call).into()
     }
 
     // Makes room for the statement first, so that none is handed out that could not be held.
     fn preliminary(&mut self, call: &StampedCall) -> Result<Answer, AllocError> {
         self.statements.reserve(1)?;
-        let mut lines = [blank(); ACCOUNTS];
-        let written = write_preliminary(
-            &self.house,
-            self.intervals.as_mut_slice(),
-            self.facilities.as_slice(),
-            self.loads.as_slice(),
-            self.contracts.as_slice(),
-            self.vestings.as_slice(),
-            &mut lines,
-            call,
-        );
+        let mut lines = [Line::blank(); ACCOUNTS];
+        let rows = Rows {
+            readings: Readings {
+                facilities: self.facilities.as_slice(),
+                loads: self.loads.as_slice(),
+            },
+            contracts: self.contracts.as_slice(),
+            vestings: self.vestings.as_slice(),
+        };
+        let intervals = self.intervals.as_mut_slice();
+        let written = write_preliminary(&self.house, intervals, &rows, &mut lines, call);
         match written {
             Ok(statement) => {
                 self.statements.push_reserved(statement);
                 self.lines = Some(lines);
                 Ok(Answer::Written)
             }
-            Err(refusal) => Ok(Answer::Refused(refusal)),
+            Err(refusal) => Ok(refusal.into()),
         }
     }
 
     fn withdrawal(&mut self, call: &HalfHourCall) -> Answer {
-        match place_held(self.statements.as_slice(), call.day, call.interval) {
-            Some(place) => {
-                let statement = self.statements.remove(place);
-                let intervals = self.intervals.as_mut_slice();
-                Answer::of(withdraw(&self.house, intervals, statement))
-            }
-            None => Answer::Missing,
-        }
+        let Some(place) = place_held(self.statements.as_slice(), call.day, call.interval) else {
+            return Answer::Missing;
+        };
+        let statement = self.statements.remove(place);
+        let intervals = self.intervals.as_mut_slice();
+        withdraw(&self.house, intervals, statement).into()
     }
 
     // The lines that were written last: none before the first accepted preliminary statement.
@@ -143,45 +128,44 @@ impl Desk {
     fn credit(&self, participant: i64) -> Answer {
         match npsc(&self.house, participant, self.lines()) {
             Ok(amount) => Answer::Credited(participant, amount),
-            Err(refusal) => Answer::Refused(refusal),
+            Err(refusal) => refusal.into(),
         }
     }
 
-    // The answer to a line, if it has one.
-    fn answer(&mut self, line: &[u8]) -> Result<Option<Answer>, AllocError> {
-        let answer = match said(line) {
-            Said::Nothing => return Ok(None),
-            Said::Malformed => Answer::Malformed,
-            Said::House(_) => Answer::HouseOpen,
-            Said::Interval(call) => self.interval(&call),
-            Said::Facility(call) => self.facility(&call),
-            Said::Load(call) => self.load(&call),
-            Said::Contract(call) => self.contract(&call),
-            Said::Vesting(call) => self.vesting(&call),
-            Said::Preliminary(call) => self.preliminary(&call)?,
-            Said::Withdraw(call) => self.withdrawal(&call),
-            Said::Npsc(participant) => self.credit(participant),
+    // The answer to a call.
+    fn answer(&mut self, call: &Call) -> Result<Answer, AllocError> {
+        let answer = match call {
+            Call::House(_) => Answer::HouseOpen,
+            Call::Interval(call) => self.interval(call),
+            Call::Facility(call) => self.facility(call),
+            Call::Load(call) => self.load(call),
+            Call::Contract(call) => self.contract(call),
+            Call::Vesting(call) => self.vesting(call),
+            Call::Preliminary(call) => self.preliminary(call)?,
+            Call::Withdraw(call) => self.withdrawal(call),
+            Call::Npsc(participant) => self.credit(*participant),
         };
-        Ok(Some(answer))
+        Ok(answer)
     }
 
+    // Answers a line, if it says anything.
     fn answer_line(&mut self, rt: &HostRuntime, line: &[u8]) -> io::Result<()> {
-        match self.answer(line)? {
-            None => Ok(()),
-            Some(Answer::Written) => {
-                print_answer(rt, Answer::Written)?;
-                print_lines(rt, self.lines())
-            }
-            Some(answer) => print_answer(rt, answer),
+        let answer = match said(line) {
+            Ok(None) => return Ok(()),
+            Ok(Some(call)) => self.answer(&call)?,
+            Err(malformed) => malformed.into(),
+        };
+        println!(rt; "{answer}")?;
+        if let Answer::Written = answer {
+            print_lines(rt, self.lines())?;
         }
+        Ok(())
     }
 
-    // Answers each line of the input.
-    pub(crate) fn answer_lines(&mut self, rt: &HostRuntime, input: &[u8]) -> io::Result<()> {
-        let mut rest = input;
-        while !rest.is_empty() {
-            self.answer_line(rt, first_line(rest))?;
-            rest = after_line(rest);
+    // Answers each line.
+    pub(crate) fn answer_lines(&mut self, rt: &HostRuntime, lines: Lines) -> io::Result<()> {
+        for line in lines {
+            self.answer_line(rt, line)?;
         }
         Ok(())
     }
@@ -198,6 +182,7 @@ impl Desk {
             lines: _,
             mut statements,
         } = self;
+        // Taken out one by one: an iterator over them could be dropped with some left, and no statement may be dropped.
         let mut told = Ok(());
         while !statements.is_empty() {
             let statement = statements.remove(0);

@@ -4,22 +4,23 @@
 mod answer;
 mod desk;
 mod held;
-mod input;
 mod opening;
 mod print;
 
 use crate::desk::Desk;
 use crate::opening::open_house;
+use lines::line::Lines;
 use std::io;
 use std::io::Read;
 
 // Answers the calls of an input, and withdraws every statement that is then held, also where an answer cannot be given.
 fn answer_calls(rt: &HostRuntime, input: &[u8]) -> io::Result<()> {
-    let Some(opened) = open_house(rt, input)? else {
+    let mut lines = Lines { rest: input };
+    let Some(house) = open_house(rt, &mut lines)? else {
         return Ok(());
     };
-    let mut desk = Desk::new(rt.alloc(), opened.house)?;
-    let answered = desk.answer_lines(rt, &input[input.len() - opened.left..]);
+    let mut desk = Desk::new(rt.alloc(), house)?;
+    let answered = desk.answer_lines(rt, lines);
     let closed = desk.close(rt);
     answered?;
     closed

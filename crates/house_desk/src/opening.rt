@@ -1,64 +1,30 @@
 // The lines up to the one that opens the house.
-ghost use Rattle.std.specs.Prelude.{◌≤◌, length, IfSome, IfOk};
-
 use crate::answer::Answer;
-use crate::input::{after_line, first_line};
-use crate::print::print_answer;
-use calls::HouseCall;
+use format::call::Call;
 use format::line::said;
-use format::said::Said;
 use house::{House, Opening};
+use lines::line::Lines;
 use std::io;
-use units::Refusal;
 
-// A house, and how many bytes of the input follow the line that opened it.
-#[derive(Clone, Copy)]
-pub(crate) struct Opened {
-    pub(crate) house: House,
-    pub(crate) left: usize,
-}
-
-// What a line comes to while no house is open.
-#[derive(Clone, Copy)]
-enum Step {
-    Nothing,
-    Answered(Answer),
-    Opened(House),
-}
-
-fn house_of(call: &HouseCall) -> Result<House, Refusal> {
-    let opening = Opening::new(call)?;
-    Ok(House::open(opening))
-}
-
-fn step_by(line: &[u8]) -> Step {
-    match said(line) {
-        Said::Nothing => Step::Nothing,
-        Said::Malformed => Step::Answered(Answer::Malformed),
-        Said::House(call) => match house_of(&call) {
-            Ok(house) => Step::Opened(house),
-            Err(refusal) => Step::Answered(Answer::Refused(refusal)),
-        },
-        _ => Step::Answered(Answer::NoHouse),
+// The house that a line opens; none where the line says nothing.
+fn opened(line: &[u8]) -> Result<Option<House>, Answer> {
+    match said(line)? {
+        None => Ok(None),
+        Some(Call::House(call)) => Ok(Some(House::open(Opening::new(&call)?))),
+        Some(_) => Err(Answer::NoHouse),
     }
 }
 
-// Answers the lines up to the one that opens the house; none where no line does.
-pub(crate) fn open_house(rt: &HostRuntime, input: &[u8]) -> io::Result<Option<Opened>>
-    ensures { IfOk result (λ o. IfSome o (λ h. h.left ≤ length input.now)) }
-{
-    let mut rest = input;
-    while !rest.is_empty() {
-        let line = first_line(rest);
-        rest = after_line(rest);
-        match step_by(line) {
-            Step::Nothing => {}
-            Step::Answered(answer) => print_answer(rt, answer)?,
-            Step::Opened(house) => {
-                print_answer(rt, Answer::Accepted)?;
-                let left = rest.len();
-                return Ok(Some(Opened { house, left }));
+// Answers the lines up to the one that opens the house, and leaves those after it; none where no line does.
+pub(crate) fn open_house(rt: &HostRuntime, lines: &mut Lines) -> io::Result<Option<House>> {
+    for line in lines {
+        match opened(line) {
+            Ok(None) => {}
+            Ok(Some(house)) => {
+                println!(rt; "{}", Answer::Accepted)?;
+                return Ok(Some(house));
             }
+            Err(answer) => println!(rt; "{answer}")?,
         }
     }
     Ok(None)

@@ -1,6 +1,7 @@
-// Numbers as a clerk writes them, of any length, and the places of commas and line ends.
+// Numbers as a clerk writes them, of any length, and the lines of a text.
 #![tactic(auto)]
 
+pub mod line;
 #[cfg(test)]
 mod tests;
 pub mod text;

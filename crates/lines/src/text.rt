@@ -11,12 +11,7 @@ pub fn place_of(text: &[u8], byte: u8) -> usize
     ensures before { (k : ℕ) → k < result → slice_index text.now k ≢ byte }
     ensures found { result < length text.now → slice_index text.now result ≡ byte }
 {
-    for (k, b) in text.iter().enumerate() {
-        if *b == byte {
-            return k;
-        }
-    }
-    text.len()
+    text.iter().position(|b| *b == byte).unwrap_or(text.len())
 }
 
 // The number that one or more digits write, held to FAR; none where there is no digit or something else.
@@ -28,11 +23,10 @@ fn magnitude(digits: &[u8]) -> Option<u64>
     }
     let mut upto = 0;
     for b in digits {
-        if *b < b'0' || b'9' < *b {
+        if !b.is_ascii_digit() {
             return None;
         }
-        let more = upto * 10 + u64::from(*b - b'0');
-        upto = if more < FAR { more } else { FAR };
+        upto = (upto * 10 + u64::from(*b - b'0')).min(FAR);
     }
     Some(upto)
 }

@@ -2,37 +2,13 @@
 ghost use Rattle.std.specs.Prelude.{◌<◌, IfOk};
 ghost use Rattle.units.specs.Ranges.{accounts};
 
-use crate::entry::{
-    ContractLine, Entry, FacilityLine, HouseLine, IntervalLine, LoadLine, VestingLine,
-};
+use crate::stop::Stop;
+use calls::{ContractCall, FacilityCall, IntervalCall, LoadCall, VestingCall};
+use format::call::Call;
+use house::Opening;
 use records::{Contract, Facility, Inputs, Load, Terms, Tranches, Vesting};
-use units::range::{ACCOUNT, CONTRACT, FACILITY, HOUSE, TRANCHE};
-use units::{ACCOUNTS, HalfHour, Refusal, Stamp, Window};
-
-// Why the desk stops at a line.
-#[derive(Clone, Copy)]
-pub enum Stop {
-    Malformed,
-    NoHouse,
-    NoInterval,
-    // a line was refused
-    Refused(Refusal),
-    // every line was taken, and the half hour cannot be settled
-    Unsettled(Refusal),
-}
-
-impl From<Refusal> for Stop {
-    fn from(refusal: Refusal) -> Stop {
-        Stop::Refused(refusal)
-    }
-}
-
-// The two standing accounts.
-#[derive(Clone, Copy)]
-pub struct House {
-    counterparty: u16,
-    operator: u16,
-}
+use units::range::{ACCOUNT, CONTRACT, FACILITY, TRANCHE};
+use units::{HalfHour, Refusal, Stamp, Window};
 
 // The half hour that is open, what it has been handed, and the last accepted stamp.
 #[derive(Clone, Copy)]
@@ -42,32 +18,11 @@ pub struct Open {
     pub inputs: Inputs,
 }
 
-fn check_participants(participants: &[i64; ACCOUNTS]) -> Result<(), Refusal> {
-    for p in participants {
-        ACCOUNT.take(*p)?;
-    }
-    Ok(())
-}
-
-pub(crate) fn house_of(line: &HouseLine) -> Result<House, Refusal> {
-    HOUSE.take(line.number)?;
-    let counterparty = ACCOUNT.take(line.counterparty)? as u16;
-    let operator = ACCOUNT.take(line.operator)? as u16;
-    check_participants(&line.participants)?;
-    if counterparty == operator {
-        return Err(Refusal::SameParty);
-    }
-    Ok(House {
-        counterparty,
-        operator,
-    })
-}
-
-pub(crate) fn open_of(house: House, line: &IntervalLine) -> Result<Open, Refusal> {
-    let half_hour = HalfHour::new(line.day, line.interval)?;
+fn open_of(house: Opening, call: &IntervalCall) -> Result<Open, Refusal> {
+    let half_hour = HalfHour::new(call.day, call.interval)?;
     let counterparty = i64::from(house.counterparty);
     let operator = i64::from(house.operator);
-    let terms = Terms::new(line.usep, line.rate, counterparty, operator)?;
+    let terms = Terms::new(call.usep, call.rate, counterparty, operator)?;
     let last = Stamp::new(0, 0)?;
     Ok(Open {
         half_hour,
@@ -78,11 +33,10 @@ pub(crate) fn open_of(house: House, line: &IntervalLine) -> Result<Open, Refusal
 
 impl Open {
     fn check_half_hour(&self, given: HalfHour) -> Result<(), Refusal> {
-        if given.day == self.half_hour.day && given.interval == self.half_hour.interval {
-            Ok(())
-        } else {
-            Err(Refusal::NotOpen)
+        if given != self.half_hour {
+            return Err(Refusal::NotOpen);
         }
+        Ok(())
     }
 
     fn check_stamp(&self, stamp: Stamp) -> Result<(), Refusal> {
@@ -90,45 +44,44 @@ impl Open {
             return Err(Refusal::StampBeforeLast);
         }
         match stamp.window() {
-            Window::First => Ok(()),
-            Window::Second => Ok(()),
+            Window::First | Window::Second => Ok(()),
             _ => Err(Refusal::WrongWindow),
         }
     }
 
-    // The place, the reading and the stamp of a facility line.
-    fn facility_of(&self, line: &FacilityLine) -> Result<(usize, Facility, Stamp), Refusal>
+    // The place, the reading and the stamp of a facility call.
+    fn facility_of(&self, call: &FacilityCall) -> Result<(usize, Facility, Stamp), Refusal>
         ensures { IfOk result (λ t. t.0 < 128) }
     {
-        let half_hour = HalfHour::new(line.day, line.interval)?;
-        let facility = FACILITY.take(line.facility)?;
-        let reading = Facility::new(line.account, line.mep, line.ieq)?;
-        let stamp = Stamp::new(line.days, line.minute)?;
+        let half_hour = HalfHour::new(call.day, call.interval)?;
+        let facility = FACILITY.take(call.facility)?;
+        let reading = Facility::new(call.account, call.mep, call.ieq)?;
+        let stamp = Stamp::new(call.days, call.minute)?;
         self.check_half_hour(half_hour)?;
         self.check_stamp(stamp)?;
         Ok((facility as usize - 1, reading, stamp))
     }
 
-    // The place, the reading and the stamp of a load line.
-    fn load_of(&self, line: &LoadLine) -> Result<(usize, Load, Stamp), Refusal>
+    // The place, the reading and the stamp of a load call.
+    fn load_of(&self, call: &LoadCall) -> Result<(usize, Load, Stamp), Refusal>
         ensures { IfOk result (λ t. t.0 < accounts) }
     {
-        let half_hour = HalfHour::new(line.day, line.interval)?;
-        let account = ACCOUNT.take(line.account)? as u16;
-        let reading = Load::new(line.weq, line.wfq)?;
-        let stamp = Stamp::new(line.days, line.minute)?;
+        let half_hour = HalfHour::new(call.day, call.interval)?;
+        let account = ACCOUNT.take(call.account)? as u16;
+        let reading = Load::new(call.weq, call.wfq)?;
+        let stamp = Stamp::new(call.days, call.minute)?;
         self.check_half_hour(half_hour)?;
         self.check_stamp(stamp)?;
         Ok((account as usize - 1, reading, stamp))
     }
 
-    // The place and the terms of a contract line.
-    fn contract_of(&self, line: &ContractLine) -> Result<(usize, Contract), Refusal>
+    // The place and the terms of a contract call.
+    fn contract_of(&self, call: &ContractCall) -> Result<(usize, Contract), Refusal>
         ensures { IfOk result (λ t. t.0 < 64) }
     {
-        let half_hour = HalfHour::new(line.day, line.interval)?;
-        let number = CONTRACT.take(line.contract)?;
-        let contract = Contract::new(line.seller, line.buyer, line.baq, line.bwf, line.bif)?;
+        let half_hour = HalfHour::new(call.day, call.interval)?;
+        let number = CONTRACT.take(call.contract)?;
+        let contract = Contract::new(call.seller, call.buyer, call.baq, call.bwf, call.bif)?;
         if contract.seller == contract.buyer {
             return Err(Refusal::SameParty);
         }
@@ -136,84 +89,118 @@ impl Open {
         Ok((number as usize - 1, contract))
     }
 
-    // The place, the tranche and the row of a vesting line.
-    fn vesting_of(&self, line: &VestingLine) -> Result<(usize, u8, Vesting), Refusal>
+    // The place, the tranche and the row of a vesting call.
+    fn vesting_of(&self, call: &VestingCall) -> Result<(usize, u8, Vesting), Refusal>
         ensures { IfOk result (λ t. t.0 < accounts) }
     {
-        let half_hour = HalfHour::new(line.day, line.interval)?;
-        let account = ACCOUNT.take(line.account)? as u16;
-        let tranche = TRANCHE.take(line.tranche)? as u8;
-        let row = Vesting::new(line.price, line.quantity)?;
-        if account == self.inputs.counterparty {
+        let half_hour = HalfHour::new(call.day, call.interval)?;
+        let account = ACCOUNT.take(call.account)? as u16;
+        let tranche = TRANCHE.take(call.tranche)? as u8;
+        let row = Vesting::new(call.price, call.quantity)?;
+        if account == self.inputs.terms.counterparty {
             return Err(Refusal::SameParty);
         }
         self.check_half_hour(half_hour)?;
         Ok((account as usize - 1, tranche, row))
     }
 
-    fn take_facility(&mut self, line: &FacilityLine) -> Result<(), Refusal> {
-        let (place, reading, stamp) = self.facility_of(line)?;
+    // A method for each call: each fills another list of the inputs.
+    fn take_facility(&mut self, call: &FacilityCall) -> Result<(), Refusal> {
+        let (place, reading, stamp) = self.facility_of(call)?;
         self.inputs.facilities[place] = Some(reading);
         self.last = stamp;
         Ok(())
     }
 
-    fn take_load(&mut self, line: &LoadLine) -> Result<(), Refusal> {
-        let (place, reading, stamp) = self.load_of(line)?;
+    fn take_load(&mut self, call: &LoadCall) -> Result<(), Refusal> {
+        let (place, reading, stamp) = self.load_of(call)?;
         self.inputs.loads[place] = Some(reading);
         self.last = stamp;
         Ok(())
     }
 
-    fn take_contract(&mut self, line: &ContractLine) -> Result<(), Refusal> {
-        let (place, contract) = self.contract_of(line)?;
+    fn take_contract(&mut self, call: &ContractCall) -> Result<(), Refusal> {
+        let (place, contract) = self.contract_of(call)?;
         self.inputs.contracts[place] = Some(contract);
         Ok(())
     }
 
-    fn take_vesting(&mut self, line: &VestingLine) -> Result<(), Refusal> {
-        let (place, tranche, row) = self.vesting_of(line)?;
+    fn take_vesting(&mut self, call: &VestingCall) -> Result<(), Refusal> {
+        let (place, tranche, row) = self.vesting_of(call)?;
         let rows = self.inputs.vestings[place];
         self.inputs.vestings[place] = with_row(rows, tranche, row);
         Ok(())
     }
 
-    // Takes what a line says of the half hour; a second house or interval has no place here.
-    pub(crate) fn take(&mut self, entry: &Entry) -> Result<(), Stop> {
-        match entry {
-            Entry::House(_) => return Err(Stop::Malformed),
-            Entry::Interval(_) => return Err(Stop::Malformed),
-            Entry::Facility(line) => self.take_facility(line)?,
-            Entry::Load(line) => self.take_load(line)?,
-            Entry::Contract(line) => self.take_contract(line)?,
-            Entry::Vesting(line) => self.take_vesting(line)?,
+    // Takes what a call says of the half hour; a second house or interval has no place here.
+    fn take(&mut self, call: &Call) -> Result<(), Stop> {
+        match call {
+            Call::Facility(call) => self.take_facility(call)?,
+            Call::Load(call) => self.take_load(call)?,
+            Call::Contract(call) => self.take_contract(call)?,
+            Call::Vesting(call) => self.take_vesting(call)?,
+            _ => return Err(Stop::Malformed),
         }
         Ok(())
     }
 }
 
+// How far the half hour is opened.
+#[derive(Clone, Copy)]
+pub(crate) enum Desk {
+    Closed,
+    Housed(Opening),
+    Open(Open),
+}
+
+// The house that the first call opens.
+fn first_house(call: &Call) -> Result<Opening, Stop> {
+    match call {
+        Call::House(call) => Ok(Opening::new(call)?),
+        Call::Interval(_) => Err(Stop::NoHouse),
+        _ => Err(Stop::NoInterval),
+    }
+}
+
+// The half hour that the first call after the house opens.
+fn first_interval(house: Opening, call: &Call) -> Result<Open, Stop> {
+    match call {
+        Call::House(_) => Err(Stop::Malformed),
+        Call::Interval(call) => Ok(open_of(house, call)?),
+        _ => Err(Stop::NoInterval),
+    }
+}
+
+impl Desk {
+    // Takes a call: the first opens the house, the second the half hour, and the others fill it.
+    pub(crate) fn take(&mut self, call: &Call) -> Result<(), Stop> {
+        match self {
+            Desk::Closed => *self = Desk::Housed(first_house(call)?),
+            Desk::Housed(house) => *self = Desk::Open(first_interval(*house, call)?),
+            Desk::Open(open) => open.take(call)?,
+        }
+        Ok(())
+    }
+
+    // What the half hour has been handed, once it is open.
+    pub(crate) fn inputs(&self) -> Result<&Inputs, Stop> {
+        match self {
+            Desk::Closed => Err(Stop::NoHouse),
+            Desk::Housed(_) => Err(Stop::NoInterval),
+            Desk::Open(open) => Ok(&open.inputs),
+        }
+    }
+}
+
 // The vesting rows of an account with this one in its tranche.
 fn with_row(rows: Tranches, tranche: u8, row: Vesting) -> Tranches {
-    let Tranches {
-        base,
-        first,
-        second,
-    } = rows;
+    let row = Some(row);
     match tranche {
-        0 => Tranches {
-            base: Some(row),
-            first,
-            second,
-        },
-        1 => Tranches {
-            base,
-            first: Some(row),
-            second,
-        },
+        0 => Tranches { base: row, ..rows },
+        1 => Tranches { first: row, ..rows },
         _ => Tranches {
-            base,
-            first,
-            second: Some(row),
+            second: row,
+            ..rows
         },
     }
 }

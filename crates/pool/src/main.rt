@@ -2,10 +2,11 @@
 #![tactic(auto)]
 
 mod desk;
-mod entry;
 mod input;
 mod posting;
 mod print;
+mod said;
+mod stop;
 mod tally;
 #[cfg(test)]
 mod tests;
@@ -17,8 +18,7 @@ use std::io::Read;
 fn run(rt: &HostRuntime) -> anyhow::Result<()> {
     let mut given = Vec::new(rt.alloc());
     rt.stdin().read_to_end(&mut given)?;
-    let input = given.as_slice();
-    print_answer(rt, &answer(input), input)?;
+    print_answer(rt, &answer(given.as_slice()))?;
     Ok(())
 }
 

@@ -1,6 +1,10 @@
 // The posting of a settled half hour into a cent layer over a passbook.
+ghost use Rattle.std.specs.Prelude.{◌<◌};
+ghost use Rattle.units.specs.Ranges.{accounts};
+
 use book::{Book, CentLayer, Entry, Passbook, post_statement};
 use figures::Figures;
+use std::array;
 use units::{ACCOUNTS, Money, Refusal};
 
 // What an account has after the posting: exactly, in millicents, and in whole cents, which is what is payable.
@@ -10,14 +14,21 @@ pub struct Balance {
     pub payable: Money,
 }
 
-// What each account is credited, by rising account.
+// What each account is credited, by rising account: the same line as a statement's, which is private to it and is promised
+// more of.
 fn credits(figures: &Figures) -> [Money; ACCOUNTS] {
-    let mut amounts = [Money(0); ACCOUNTS];
-    for k in 0..ACCOUNTS {
-        let line = &figures.lines[k];
-        amounts[k] = line.nasc;
-    }
-    amounts
+    figures.lines.map(|line| line.nasc)
+}
+
+// What an account has, by its place, which is a plain index, as `try_from_fn` hands it out.
+fn balance_at<B: Book>(book: &CentLayer<B>, k: usize) -> Result<Balance, Refusal>
+    requires { k < accounts }
+{
+    let account = k as u16 + 1;
+    Ok(Balance {
+        exact: book.balance(account)?,
+        payable: book.payable(account)?,
+    })
 }
 
 // The balances of a cent layer over a book, once these amounts are posted to it.
@@ -27,17 +38,7 @@ fn balances_over<B: Book + Drop>(
 ) -> Result<[Balance; ACCOUNTS], Refusal> {
     let mut book = CentLayer::over(below);
     post_statement(&mut book, amounts)?;
-    let mut balances = [Balance {
-        exact: Money(0),
-        payable: Money(0),
-    }; ACCOUNTS];
-    for k in 0..ACCOUNTS {
-        let account = k as u16 + 1;
-        let exact = book.balance(account)?;
-        let payable = book.payable(account)?;
-        balances[k] = Balance { exact, payable };
-    }
-    Ok(balances)
+    array::try_from_fn(|k| balance_at(&book, k))
 }
 
 // The balances of a new passbook, under a cent layer, once the half hour is posted.

@@ -1,58 +1,29 @@
-// What the program prints: the settled half hour, or where it stopped.
-use crate::desk::Stop;
-use crate::input::{Halt, Settled, line_at};
+// What the program prints: the settled half hour, or where it stopped. What is one text is printed by its `Display`; these
+// functions write several.
+use crate::input::Settled;
 use crate::posting::Balance;
-use crate::tally::Tally;
-use figures::Line;
+use crate::stop::{Halt, Stop};
 use std::io;
 use std::io::Write;
-use units::{ACCOUNTS, Refusal};
+use units::ACCOUNTS;
 
-fn print_tally(rt: &HostRuntime, tally: &Tally) -> io::Result<()> {
-    let facilities = tally.facilities;
-    let loads = tally.loads;
-    let contracts = tally.contracts;
-    let vestings = tally.vestings;
-    println!(rt;
-        "taken,facilities,{facilities},loads,{loads},contracts,{contracts},vesting rows,{vestings}"
-    )
-}
-
-fn print_line(rt: &HostRuntime, line: &Line) -> io::Result<()> {
-    let account = line.account;
-    let gesc = line.gesc.0;
-    let lesd = line.lesd.0;
-    let bsc = line.bsc.0;
-    let vcsc = line.vcsc.0;
-    let fee = line.fee.0;
-    let heuc = line.heuc.0;
-    let nasc = line.nasc.0;
-    println!(rt; "{account},{gesc},{lesd},{bsc},{vcsc},{fee},{heuc},{nasc}")
-}
-
-fn print_balance(rt: &HostRuntime, account: usize, balance: &Balance) -> io::Result<()> {
-    let exact = balance.exact.0;
-    let payable = balance.payable.0;
-    println!(rt; "balance,{account},{exact},{payable}")
-}
-
+// The balances that are not zero.
 fn print_balances(rt: &HostRuntime, balances: &[Balance; ACCOUNTS]) -> io::Result<()> {
     for (k, balance) in balances.iter().enumerate() {
         if balance.exact.0 != 0 {
-            print_balance(rt, k + 1, balance)?;
+            println!(rt; "balance,{},{},{}", k + 1, balance.exact, balance.payable)?;
         }
     }
     Ok(())
 }
 
 fn print_settled(rt: &HostRuntime, settled: &Settled) -> io::Result<()> {
-    print_tally(rt, &settled.tally)?;
-    let rate = settled.figures.uplift.rate.0;
-    println!(rt; "uplift rate,{rate}")?;
+    println!(rt; "{}", settled.tally)?;
+    println!(rt; "uplift rate,{}", settled.figures.uplift.rate.0)?;
     println!(rt; "account,GESC,LESD,BSC,VCSC,FEE,HEUC,NASC")?;
-    for line in settled.figures.lines.iter() {
+    for line in &settled.figures.lines {
         if line.nasc.0 != 0 {
-            print_line(rt, line)?;
+            println!(rt; "{line}")?;
         }
     }
     print_balances(rt, &settled.balances)
@@ -65,33 +36,18 @@ fn print_text(rt: &HostRuntime, number: usize, text: &[u8]) -> io::Result<()> {
     println!(rt; "")
 }
 
-fn print_refusal(rt: &HostRuntime, refusal: Refusal) -> io::Result<()> {
-    let number = refusal.number();
-    println!(rt; "refused,{number}")
-}
-
-fn print_halt(rt: &HostRuntime, halt: Halt, input: &[u8]) -> io::Result<()> {
-    let number = halt.number;
+fn print_halt(rt: &HostRuntime, halt: &Halt) -> io::Result<()> {
+    println!(rt; "{halt}")?;
     match halt.stop {
-        Stop::Malformed => println!(rt; "malformed,line {number}"),
-        Stop::NoHouse => println!(rt; "no house,line {number}"),
-        Stop::NoInterval => println!(rt; "no interval,line {number}"),
-        Stop::Unsettled(refusal) => print_refusal(rt, refusal),
-        Stop::Refused(refusal) => {
-            print_refusal(rt, refusal)?;
-            print_text(rt, number, line_at(input, number))
-        }
+        Stop::Refused(_) => print_text(rt, halt.number, halt.line),
+        _ => Ok(()),
     }
 }
 
 // Prints what the input came to.
-pub(crate) fn print_answer(
-    rt: &HostRuntime,
-    answer: &Result<Settled, Halt>,
-    input: &[u8],
-) -> io::Result<()> {
+pub(crate) fn print_answer(rt: &HostRuntime, answer: &Result<Settled, Halt>) -> io::Result<()> {
     match answer {
         Ok(settled) => print_settled(rt, settled),
-        Err(halt) => print_halt(rt, *halt, input),
+        Err(halt) => print_halt(rt, halt),
     }
 }

@@ -1,8 +1,10 @@
 // How many records of each kind a half hour has.
-ghost use Rattle.std.specs.Prelude.{◌≡◌};
+ghost use Rattle.std.specs.Prelude.{◌≡◌, ◌≤◌};
 ghost use Rattle.pool.specs.Tallies.{held_places};
 
 use records::{Inputs, Tranches};
+use std::fmt;
+use units::ACCOUNTS;
 
 #[derive(Clone, Copy)]
 pub struct Tally {
@@ -13,32 +15,22 @@ pub struct Tally {
 }
 
 // How many places of a list are taken.
-#[tactic(auto, using(crate::proofs::Places::one_counted, crate::proofs::Places::all_counted))]
 fn taken<T>(places: &[Option<T>]) -> usize
     ensures { result ≡ held_places places.now }
 {
-    let mut count = 0;
-    for place in places {
-        if place.is_some() {
-            count += 1;
-        }
-    }
-    count
+    places.iter().filter(|place| place.is_some()).count()
 }
 
-fn rows(tranches: &Tranches) -> usize {
-    let base = if tranches.base.is_some() { 1 } else { 0 };
-    let first = if tranches.first.is_some() { 1 } else { 0 };
-    let second = if tranches.second.is_some() { 1 } else { 0 };
-    base + first + second
+// How many rows an account has.
+fn rows(tranches: &Tranches) -> usize
+    ensures { result ≤ 3 }
+{
+    taken(&[tranches.base, tranches.first, tranches.second])
 }
 
-fn all_rows(vestings: &[Tranches]) -> usize {
-    let mut count: usize = 0;
-    for tranches in vestings {
-        count = count.saturating_add(rows(tranches));
-    }
-    count
+// How many rows all accounts have.
+fn all_rows(vestings: &[Tranches; ACCOUNTS]) -> usize {
+    vestings.iter().map(rows).sum()
 }
 
 impl Tally {
@@ -49,5 +41,15 @@ impl Tally {
             contracts: taken(&inputs.contracts),
             vestings: all_rows(&inputs.vestings),
         }
+    }
+}
+
+impl fmt::Display for Tally {
+    fn fmt<W: fmt::Write>(&self, f: &mut fmt::Formatter<W>) -> fmt::Result {
+        write!(
+            f,
+            "taken,facilities,{},loads,{},contracts,{},vesting rows,{}",
+            self.facilities, self.loads, self.contracts, self.vestings
+        )
     }
 }

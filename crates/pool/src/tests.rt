@@ -1,15 +1,15 @@
 // What a line says, on examples.
-use crate::entry::parse;
-use crate::input::trimmed;
+use crate::said::call_in;
+use format::blanks::trimmed;
 
 #[test]
 fn malformed_lines(rt: HostRuntime) {
-    assert!(rt; parse(b"interval,1,1,10000,40").is_some());
-    assert!(rt; parse(b"interval,1,1,10000").is_none());
-    assert!(rt; parse(b"interval,1,1,10000,40,").is_none());
-    assert!(rt; parse(b"intervals,1,1,10000,40").is_none());
-    assert!(rt; parse(b"house").is_none());
-    assert!(rt; parse(b"house,1,4,5,6").is_none());
+    assert!(rt; matches!(call_in(b"interval,1,1,10000,40"), Ok(Some(_))));
+    assert!(rt; call_in(b"interval,1,1,10000").is_err());
+    assert!(rt; call_in(b"interval,1,1,10000,40,").is_err());
+    assert!(rt; call_in(b"intervals,1,1,10000,40").is_err());
+    assert!(rt; call_in(b"house").is_err());
+    assert!(rt; call_in(b"house,1,4,5,6").is_err());
 }
 
 #[test]

@@ -1,53 +1,41 @@
-use Rattle.std.proofs.Common.{◌≡◌, ℕ, ◌+◌, ◌-◌, ◌<◌, ◌≤◌, List, [], ◌∷◌, length, get_or, take, drop, Some, Option, sym, ap, ◌∙◌, arith}
-use Rattle.std.proofs.lemmas.List.{take_rest}
-use Rattle.std.specs.Option.{option_map}
-use Rattle.format.specs.declared.numbers.Numbers.{Numbers}
+use Rattle.std.proofs.Common.{◌≡◌, ◌++◌, ◌∷◌, [], length, drop, eqb, sym, ap, ◌∙◌, rules, tests}
+use Rattle.std.proofs.lemmas.Iterator.Splits.{YieldsList-from_slice_split}
+use Rattle.std.proofs.lemmas.List.{length_push}
 use Rattle.format.specs.Fields.{fields_of, numbers_in}
-use Rattle.format.specs.Held.{at_most, listed}
-use Rattle.format.specs.Lines.{of_fields, of_numbers}
 use Rattle.format.specs.Table.{by_word}
-use Rattle.format.proofs.Cuts.{cut, last_field}
-use Rattle.format.proofs.Words.{capped}
+use Rattle.format.proofs.Fields.{after, all_read, at_end, at_field, no_number, then_fields}
+use Rattle.format.proofs.Words.{of_all, too_many}
 use Rattle.format.proofs.line.call_of.Goals as goal
-use Rattle.format.proofs.line.call_of.Goals.{Joined-comma-text, then-comma-text, else-comma-text}
 
--- the numbers that were read are those of the fields after the word
-abbrev Read : List ℕ → ℕ → Option Numbers → Type 0
-Read text p numbers = (fs : List (List ℕ)) × (fields_of text ≡ take (p - 0) text ∷ fs) × (option_map listed numbers ≡ at_most 99 (numbers_in fs))
-
--- the text says what its word makes of the numbers that were read
-says : (text : List ℕ) (p : ℕ) (numbers : Option Numbers) → Read text p numbers → of_fields (fields_of text) ≡ of_numbers (take (p - 0) text) (option_map listed numbers)
-says text p numbers r = ap of_fields r.1 ∙ sym (ap (of_numbers (take (p - 0) text)) r.2 ∙ capped (take (p - 0) text) (numbers_in r.0))
-
--- where a comma follows the word
-with_comma : (text : List ℕ) (p : ℕ) (numbers read : Option Numbers) → ((k : ℕ) → k < p → get_or text k 0 ≡ 44 → ⊥) → p < length text → get_or text p 0 ≡ 44 → numbers ≡ read → option_map listed read ≡ at_most 99 (numbers_in (fields_of (take (length text - (p + 1)) (drop (p + 1) text)))) → Read text p numbers
-with_comma text p numbers read before lt comma is e =
-    let whole : p - 0 ≡ p = omega arith in
-    (fields_of (drop (p + 1) text), cut text p before lt comma ∙ ap (λ n. take n text ∷ fields_of (drop (p + 1) text)) (sym whole), ap (option_map listed) is ∙ e ∙ ap (λ cs. at_most 99 (numbers_in (fields_of cs))) (take_rest text (p + 1)))
-
--- where the word stands alone
-alone : (text : List ℕ) (p : ℕ) (numbers : Option Numbers) (none : Numbers) → ((k : ℕ) → k < p → get_or text k 0 ≡ 44 → ⊥) → length text ≤ p → numbers ≡ Some none → listed none ≡ [] → Read text p numbers
-alone text p numbers none before le is e =
-    let whole : p - 0 ≡ p = omega arith in
-    ([], last_field text p before le ∙ ap (λ n. take n text ∷ []) (sym whole), ap (option_map listed) is ∙ ap Some e)
-
--- what was read, whether a comma follows the word or not
-read : (c : Joined-comma-text) → Read c.args.text.now c.place_of-comma.result c.if-comma-text.numbers
-read c =
-    elim c.if-comma-text.branch [
-      | then-comma-text w ↦ with_comma _ _ _ _ c.place_of-comma.ensures.before w.if-comma-text.true (c.place_of-comma.ensures.found w.if-comma-text.true) w.numbers-is w.numbers_of-numbers.ensures
-      | else-comma-text w ↦ alone _ _ _ _ c.place_of-comma.ensures.before w.if-comma-text.false w.numbers-is w.none.ensures
-    ]
-
-pub returns-in-Some : goal.returns-in-Some
-returns-in-Some c =
-    let word = take (c.place_of-comma.result - 0) c.args.text.now in
+pub returns : goal.returns
+returns c =
+    let fields = at_end (YieldsList-from_slice_split _ (λ b. eqb b 44) c.args.text.now c.split-fields.ensures.rest c.split-fields.ensures.done c.split-fields.ensures.closure (λ x b q k. search (rules, tests))) _ _ _ _ c.in_ok-word.was c.next.ensures.steps c.into_iter-field-iterator.ensures.into_iter_gives _ _ c.loop-field.yielded_by _ _ c.next-in-loop-field.ensures.steps c.in-None.is in
     c.called.ensures
-    ∙ ap (by_word word) c.as_slice.ensures
-    ∙ ap (λ o. of_numbers word (option_map listed o)) (sym c.in-Some.is)
-    ∙ sym (says c.args.text.now c.place_of-comma.result _ (read (goal.at.returns-in-Some c).Joined-comma-text))
+    ∙ ap (by_word c.in_ok-word.word.now) c.as_slice.ensures.value
+    ∙ sym (of_all _ _ _ fields.0 (sym c.loop-field.invariant.2 ∙ all_read c.loop-field.numbers.items _ fields.1))
 
-pub returns-in-None : goal.returns-in-None
-returns-in-None c =
-    let word = take (c.place_of-comma.result - 0) c.args.text.now in
-    ap (λ o. of_numbers word (option_map listed o)) (sym c.in-None.is) ∙ sym (says c.args.text.now c.place_of-comma.result _ (read (goal.at.returns-in-None c).Joined-comma-text))
+pub returns-in_err-number : goal.returns-in_err-number
+returns-in_err-number c =
+    let fields = at_field (YieldsList-from_slice_split _ (λ b. eqb b 44) c.args.text.now c.split-fields.ensures.rest c.split-fields.ensures.done c.split-fields.ensures.closure (λ x b q k. search (rules, tests))) _ _ _ _ c.in_ok-word.was c.next.ensures.steps c.into_iter-field-iterator.ensures.into_iter_gives _ _ c.loop-field.yielded_by _ _ c.next-in-loop-field.ensures.steps _ c.in-Some.is in
+    c.from_residual-in_err-number.ensures ∙ sym (of_all _ _ _ fields.0 (sym c.loop-field.invariant.2 ∙ no_number c.loop-field.numbers.items _ _ _ fields.1 c.in_err-number.ensures))
+
+pub returns-in_err-ok : goal.returns-in_err-ok
+returns-in_err-ok c =
+    let fields = at_field (YieldsList-from_slice_split _ (λ b. eqb b 44) c.args.text.now c.split-fields.ensures.rest c.split-fields.ensures.done c.split-fields.ensures.closure (λ x b q k. search (rules, tests))) _ _ _ _ c.in_ok-word.was c.next.ensures.steps c.into_iter-field-iterator.ensures.into_iter_gives _ _ c.loop-field.yielded_by _ _ c.next-in-loop-field.ensures.steps _ c.in-Some.is in
+    let full : length c.loop-field.numbers.items ≡ 99 = search rules in
+    let read = then_fields c.loop-field.numbers.items c.in_ok-number.field-0 _ _ _ fields.1 c.in_ok-number.ensures in
+    c.from_residual-in_err-ok.ensures
+    ∙ sym (of_all _ c.in_ok-word.word.now _ fields.0 (sym c.loop-field.invariant.2 ∙ read) ∙ too_many c.in_ok-word.word.now c.loop-field.numbers.items c.in_ok-number.field-0 _ full)
+
+pub loop-field-preserved : goal.loop-field-preserved
+loop-field-preserved c =
+    let fields = at_field (YieldsList-from_slice_split _ (λ b. eqb b 44) c.args.text.now c.split-fields.ensures.rest c.split-fields.ensures.done c.split-fields.ensures.closure (λ x b q k. search (rules, tests))) _ _ _ _ c.in_ok-word.was c.next.ensures.steps c.into_iter-field-iterator.ensures.into_iter_gives _ _ c.loop-field.yielded_by _ _ c.next-in-loop-field.ensures.steps _ c.in-Some.is in
+    let read = then_fields c.loop-field.numbers.items c.in_ok-number.field-0 _ _ _ fields.1 c.in_ok-number.ensures in
+    let pushed : c.try_push.new.self.items ≡ c.loop-field.numbers.items ++ c.in_ok-number.field-0 ∷ [] = search rules in (
+      search rules,
+      search rules,
+      ap (λ xs. after xs (numbers_in (drop (length (c.loop-field.yielded ++ c.in-Some.field ∷ [])) (drop 1 (fields_of c.args.text.now))))) pushed
+          ∙ ap (λ n. after (c.loop-field.numbers.items ++ c.in_ok-number.field-0 ∷ []) (numbers_in (drop n (drop 1 (fields_of c.args.text.now))))) (length_push c.loop-field.yielded c.in-Some.field)
+          ∙ sym read
+          ∙ c.loop-field.invariant.2,
+    )

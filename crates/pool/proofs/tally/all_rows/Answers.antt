@@ -1,0 +1,7 @@
+use Rattle.std.proofs.Common.{arith, rules, tests}
+use Rattle.std.proofs.lemmas.Iterator.{YieldsList-from_slice}
+use Rattle.std.proofs.lemmas.Iterator.Adapters.{at_most_from_yields_List, fits_from_length}
+use Rattle.pool.proofs.tally.all_rows.Goals as goal
+
+pub sum-requires-clause-fits : goal.sum-requires-clause-fits
+sum-requires-clause-fits c = fits_from_length _ _ 96 _ (at_most_from_yields_List (YieldsList-from_slice c.args.vestings.now cc) (search rules)) c.map.ensures.closure (omega arith) (λ x r q k. search (rules, tests))
