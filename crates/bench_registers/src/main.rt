@@ -119,10 +119,10 @@ fn measure(rt: &HostRuntime, rows: u32) -> anyhow::Result<()> {
     let mut all = filled(rt, rows)?;
     let start = Instant::now(rt)?;
     put_last(all.facilities.as_mut_slice(), rows);
-    let put = start.elapsed(rt)?.as_nanos() / 100;
+    let put = start.elapsed(rt)?.as_nanos() / u128::from(TIMES);
     let start = Instant::now(rt)?;
     let count = gather_each(&terms, &all);
-    let gathering = start.elapsed(rt)?.as_nanos() / 100;
+    let gathering = start.elapsed(rt)?.as_nanos() / u128::from(TIMES);
     println!(rt;
         "{rows} rows: a put {put} ns, a gathering {gathering} ns ({count} rows gathered)"
     )?;
@@ -132,13 +132,13 @@ fn measure(rt: &HostRuntime, rows: u32) -> anyhow::Result<()> {
 fn run(rt: &HostRuntime) -> anyhow::Result<()> {
     let mut words = env::args(rt)?;
     let _ = words.next();
-    let mut any = false;
+    let Some(first) = words.next() else {
+        println!(rt; "usage: bench_registers ROWS ..")?;
+        return Ok(());
+    };
+    measure(rt, first.parse::<u32>()?)?;
     for word in words {
         measure(rt, word.parse::<u32>()?)?;
-        any = true;
-    }
-    if !any {
-        println!(rt; "usage: bench_registers ROWS ..")?;
     }
     Ok(())
 }

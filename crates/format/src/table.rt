@@ -1,4 +1,5 @@
-// The call that each word makes of the numbers after it.
+// The call that each word makes of the numbers after it. No `TryFrom`: lists of numbers and calls are types of others, and
+// the order of the numbers is this format's.
 ghost use Rattle.std.specs.Prelude.{◌≡◌};
 ghost use Rattle.format.specs.Table.{by_word, contract_line, each_its_own, facility_line, house_line, interval_line, load_line, npsc_line, participants_of, preliminary_line, vesting_line, withdraw_line};
 

@@ -49,6 +49,12 @@ impl Open {
         }
     }
 
+    // What keeps a reading out of the half hour.
+    fn check_reading(&self, half_hour: HalfHour, stamp: Stamp) -> Result<(), Refusal> {
+        self.check_half_hour(half_hour)?;
+        self.check_stamp(stamp)
+    }
+
     // The place, the reading and the stamp of a facility call.
     fn facility_of(&self, call: &FacilityCall) -> Result<(usize, Facility, Stamp), Refusal>
         ensures { IfOk result (λ t. t.0 < 128) }
@@ -57,8 +63,7 @@ impl Open {
         let facility = FACILITY.take(call.facility)?;
         let reading = Facility::new(call.account, call.mep, call.ieq)?;
         let stamp = Stamp::new(call.days, call.minute)?;
-        self.check_half_hour(half_hour)?;
-        self.check_stamp(stamp)?;
+        self.check_reading(half_hour, stamp)?;
         Ok((facility as usize - 1, reading, stamp))
     }
 
@@ -70,8 +75,7 @@ impl Open {
         let account = ACCOUNT.take(call.account)? as u16;
         let reading = Load::new(call.weq, call.wfq)?;
         let stamp = Stamp::new(call.days, call.minute)?;
-        self.check_half_hour(half_hour)?;
-        self.check_stamp(stamp)?;
+        self.check_reading(half_hour, stamp)?;
         Ok((account as usize - 1, reading, stamp))
     }
 

@@ -50,7 +50,7 @@ pub(crate) fn answer(input: &[u8]) -> Result<Settled, Halt<'_>> {
             let line = trimmed(line);
             return Err(Halt { stop, number, line });
         }
-        // no promise says that a text has fewer lines than 64 bits count
+        // counted along, since the end of input is told as the line after the last; no promise says that 64 bits count them
         number = number.saturating_add(1);
     }
     finish(&desk).map_err(|stop| Halt {

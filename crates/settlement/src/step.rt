@@ -21,6 +21,7 @@ impl Step {
         ensures to { result.to ≡ to_phase correction }
         ensures early { result.early ≡ last_window correction }
     {
+        // one match, the table of what differs between the two
         match correction {
             Correction::First => Step {
                 from: Phase::Final,
