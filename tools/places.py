@@ -85,6 +85,16 @@ def twins(files, words, least):
     return [g for g in groups.values() if len(g) > 1]
 
 
+def lines_like(name, text, patterns):
+    """The lines that match a pattern, each with what the first such pattern stands for."""
+    found = []
+    for i, l in enumerate(text.split("\n"), 1):
+        what = next((w for p, w in patterns if re.search(p, l)), None)
+        if what is not None:
+            found.append((i, f"{name}:{i}: {what}{l.strip()}"))
+    return found
+
+
 def point1(files):
     found = []
     for name, text in files:
@@ -96,11 +106,8 @@ def point1(files):
             options = re.findall(r"^\s+(?:pub(?:\(crate\))? )?(\w+): Option<", whole, re.M)
             if len(options) == 2 and whole.count(":") <= 3:
                 found.append(f"{name}:{line}: options beside one another: {whole.strip().splitlines()[0]}")
-        for i, l in enumerate(text.split("\n"), 1):
-            if re.search(r"(phase|window\(\))\.number\(\)", l):
-                found.append(f"{name}:{i}: a number for a kind: {l.strip()}")
-            if re.search(r"fn (?!number)\w+\(.*\) -> u8$", l):
-                found.append(f"{name}:{i}: a number for a kind: {l.strip()}")
+        numbers = r"(phase|window\(\))\.number\(\)|fn (?!number)\w+\(.*\) -> u8$"
+        found += [f for _, f in lines_like(name, text, [(numbers, "a number for a kind: ")])]
     return found
 
 
@@ -114,7 +121,7 @@ def point2(files):
 def point3(files):
     found = []
     for name, text in files:
-        lines = text.split("\n")
+        lines, counted = text.split("\n"), []
         for i, l in enumerate(lines):
             m = re.match(r"\s*for (\w+) in \(?[\w.]+\.\.", l)
             if m and m.group(1) != "_":
@@ -125,11 +132,9 @@ def point3(files):
                     if depth <= 0:
                         break
                 if re.search(r"\[[^\]]*\b" + m.group(1) + r"\b", "\n".join(body)):
-                    found.append(f"{name}:{i + 1}: {l.strip()}")
-            elif re.match(r"\s*while ", l):
-                found.append(f"{name}:{i + 1}: {l.strip()}")
-            elif re.match(r"\s*for .* in .*enumerate\(\)", l):
-                found.append(f"{name}:{i + 1}: {l.strip()}")
+                    counted.append((i + 1, f"{name}:{i + 1}: {l.strip()}"))
+        others = lines_like(name, text, [(r"^\s*while |^\s*for .* in .*enumerate\(\)", "")])
+        found += [f for _, f in sorted(counted + others)]
     return found
 
 
@@ -202,11 +207,8 @@ def point7(files):
         for m in re.finditer(r"^(?:pub(?:\(crate\))? )?struct (\w+);$", text, re.M):
             if re.search(r"^impl.* for " + m.group(1) + r"\b", text, re.M):
                 found.append(f"{name}:{text.count(chr(10), 0, m.start()) + 1}: a type that stands for a function: {m.group(1)}")
-        for i, l in enumerate(text.split("\n"), 1):
-            if re.search(r"match (step|self|correction) \{", l) and "step" in name:
-                found.append(f"{name}:{i}: a switch on a step: {l.strip()}")
-            elif re.search(r"match (step|sort) \{", l):
-                found.append(f"{name}:{i}: a switch on a step: {l.strip()}")
+        switch = r"match (step|self|correction|sort) \{" if "step" in name else r"match (step|sort) \{"
+        found += [f for _, f in lines_like(name, text, [(switch, "a switch on a step: ")])]
     return found
 
 
