@@ -88,8 +88,12 @@ fn held<T>(slots: &[Option<T>]) -> usize
 fn used(inputs: &Inputs) -> usize
     ensures { result ≤ 384 }
 {
-    let bases = inputs.vestings.map(|tranches| tranches.base);
-    held(&inputs.facilities) + held(&inputs.loads) + held(&inputs.contracts) + held(&bases)
+    let bases = inputs
+        .vestings
+        .iter()
+        .filter(|tranches| tranches.base.is_some())
+        .count();
+    held(&inputs.facilities) + held(&inputs.loads) + held(&inputs.contracts) + bases
 }
 
 // Gathers the first half hours in turn.
