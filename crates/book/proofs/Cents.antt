@@ -1,9 +1,13 @@
 -- What a balance in whole cents lies between, and how a layer's conditions are kept.
-use Rattle.std.proofs.Common.{◌≡◌, ℕ, zero, suc, ℤ, pos, negsuc, sym, ap, ◌∙◌, subst, ⊎_elim, div-le_self, arith}
+use Rattle.std.proofs.Common.{◌≡◌, ℕ, zero, suc, ℤ, pos, negsuc, sym, ap, ◌∙◌, subst, ⊎_elim, div-le_self, arith, refl}
 use Rattle.std.proofs.lemmas.Int.{ints}
 use Rattle.units.specs.Ranges.{Account, Around}
 use Rattle.std.proofs.lemmas.Bool.{cases_eq}
 use Rattle.book.specs.Cents.{whole_cents, InCents, own_first}
+
+pub no_cents : whole_cents (pos 0) ≡ pos 0
+unfolding whole_cents
+no_cents = refl
 
 pub cents_around : (far : ℕ) (z : ℤ) → Around far z → Around far (whole_cents z)
 unfolding whole_cents

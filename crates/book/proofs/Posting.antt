@@ -8,7 +8,7 @@ use Rattle.units.specs.Refusals.{refusal_number}
 use Rattle.units.specs.declared.quantity.Money.{Money}
 use Rattle.units.specs.declared.refusal.Refusal.{Refusal}
 use Rattle.units.specs.declared.refusal.Refusal.TheVariants.{OutOfRange, SameParty, NotAfterLatest, NotOpen, NotThisStatement, StampBeforeLast, WrongPhase, WrongWindow, NothingToCorrect, RegisterFull, TooFewLines, VestingWithoutFacility, NoLoadForUplift, UpliftBeyondLimit, BalanceBeyondLimit, TooFewPlaces}
-use Rattle.book.specs.Meaning.{balance_limit, post_checks, Shown, Posted}
+use Rattle.book.specs.Meaning.{balance_limit, post_checks, Shown, Posted, account_checks}
 
 -- no refusal has the number 0
 pub refusal_positive : (e : Refusal) → 0 < refusal_number e
@@ -28,6 +28,12 @@ refusal_positive NoLoadForUplift = omega arith
 refusal_positive UpliftBeyondLimit = omega arith
 refusal_positive BalanceBeyondLimit = omega arith
 refusal_positive TooFewPlaces = omega arith
+
+-- an account's balance is never refused
+pub shown_refused : (held : ℕ → ℤ) (a : ℕ) (e : Refusal) → Shown held a (Err e) → Account a → ⊥
+shown_refused held a e s h =
+    let none : first_met (account_checks a) ≡ 0 = grind (arith, nat_tests) in
+    omega (arith, refusal_positive e, s.answer, none)
 
 -- a balance is shown for an account alone
 pub shown_account : (held : ℕ → ℤ) (a : ℕ) (m : Money) → Shown held a (Ok m) → Account a

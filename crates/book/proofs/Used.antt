@@ -1,14 +1,14 @@
 -- The lines of a passbook: counted up to the first vacant one, vacated after it, and with that one filled.
-use Rattle.std.proofs.Common.{◌≡◌, ℕ, zero, suc, ◌+◌, ◌<◌, ◌≤◌, Bool, true, false, cond, eqb, List, [], ◌∷◌, ◌++◌, length, get_or, take, set, replicate, ℤ, pos, ◌+ℤ◌, is_some, Some, None, Option, sym, refl, ap, ◌∙◌, arith, length-append, length-set, length-take}
+use Rattle.std.proofs.Common.{◌≡◌, ℕ, zero, suc, ◌+◌, ◌<◌, ◌≤◌, Bool, true, false, cond, eqb, List, [], ◌∷◌, ◌++◌, length, get_or, take, set, replicate, ℤ, pos, ◌+ℤ◌, is_some, Some, None, Option, sym, refl, ap, ◌∙◌, arith, length-append, length-set, length-take, drop, ⊎_elim}
 use lib.ListN.{length-replicate}
-use Rattle.std.proofs.lemmas.List.{get_or-set_other, map-id}
+use Rattle.std.proofs.lemmas.List.{get_or-set_other, map-id, drop_more}
 use Rattle.std.proofs.lemmas.Grind.{common_steps}
 use Rattle.std.proofs.lemmas.Iterator.{YieldsList, items_from_drains}
 use Rattle.std.specs.Iterator.{Drains}
 use Rattle.std.specs.List.{prefix_len, take_while, filter, filter_map, last_or}
 use Rattle.std.proofs.lemmas.List.Sums.{take_while-cons}
 use Rattle.std.proofs.lemmas.List.Folds.{length-prefix_len}
-use Rattle.std.proofs.lemmas.Bool.{cond-true, cond-false, eq-eqb, ne_eqb}
+use Rattle.std.proofs.lemmas.Bool.{cond-true, cond-false, eq-eqb, ne_eqb, cases_lt}
 use Rattle.book.specs.Lines.{used_lines, last_balance, balance_in, free_lines, vacated, Filled, Tidy}
 use Rattle.book.specs.Meaning.{Raised}
 use Rattle.book.specs.declared.entry.Entry.{Entry}
@@ -152,6 +152,14 @@ module _ (ls : List (Option Entry)) (u : ℕ) (e : Entry) (q : u ≡ used_lines 
 
   pub fill_line : (amount : ℤ) → e.amount.0 ≡ amount → e.after.0 ≡ balance_in ls e.account +ℤ amount → Filled ls e.account amount (set ls u (Some e))
   fill_line amount p s = record { entry = e; of_account = refl; of_amount = p; of_balance = s; filled = at_used }
+
+-- the lines from an index on begin with the line that was read there
+pub next_line : (ls : List (Option Entry)) (i : ℕ) (x : Option Entry) → i < length ls → x ≡ get_or ls i x → drop i ls ≡ x ∷ drop (i + 1) ls
+next_line ls i x h e = drop_more ls i x h ∙ ap (λ y. y ∷ drop (i + 1) ls) (sym e)
+
+-- and a line with an entry is used
+pub not_vacant_used : (ls : List (Option Entry)) (k : ℕ) (x : Entry) → Tidy ls → get_or ls k None ≡ Some x → k < used_lines ls
+not_vacant_used ls k x t e = ⊎_elim (λ h. h) (λ h. absurd (let v : get_or ls k None ≡ None = t k h in let z : ◌≡◌ {A = ℕ} 0 1 = cc in omega arith)) (cases_lt k (used_lines ls))
 
 -- what a count of the used lines, a vacating and a reading of a line want
 pub ruleset counting = (used_taken, used_at_most, common_steps)

@@ -59,6 +59,10 @@ added {far} all f v long grown k h = by (cases_eq (suc k) f.account)
         let apart : k ≡ f.account - 1 → ⊥ = λ p. ne (omega (arith, f.account_ok.0)) in
         subst (λ y. Grown (suc k) (Some (injection_of f)) (get_or all k nothing_injected) y) (sym (get_or-set_other all (f.account - 1) k v nothing_injected apart)) (grown_other (suc k) (injection_of f) _ (λ p. ne (sym p)))
 
+-- no facility leaves the totals
+pub grown_none : (a : ℕ) (x : Injected) → Grown a None x x
+grown_none a x = record { count = sym (+ℤ_idr _); ieq = sym (+ℤ_idr _); injected = sym (+ℤ_idr _); prices = sym (+ℤ_idr _); gesc = sym (+ℤ_idr _); weighted = sym (+ℤ_idr _) }
+
 pub totalled_none : (facility : ℕ → Option Injection) (a : ℕ) → Totalled facility 0 a nothing_injected
 totalled_none facility a = record { count = sym (sum_none _); ieq = sym (sum_none _); injected = sym (sum_none _); prices = sym (sum_none _); gesc = sym (sum_none _); weighted = sym (sum_none _) }
 

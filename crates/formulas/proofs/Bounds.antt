@@ -5,10 +5,11 @@ use Rattle.std.proofs.lemmas.Int.{ints}
 use Rattle.units.specs.Division.{floor, nearest}
 use Rattle.units.specs.Ranges.{Account, Around, Within, accounts}
 use Rattle.formulas.specs.Basis.{Basis, Bilateral, Injection, Vested, Withdrawal, contracts, facilities, of_account, of_load, over}
-use Rattle.formulas.specs.Figures.{beq_of, bsc_of, fee_of, gesc_of, heua_of, heuc_of, ieq_of, lesd_of, nasc_of, vcrp_of, vcsc_of, weq_of, wfq_of, at_least_0, balanced, borne, from_contract, from_vesting, own_fee_of, own_vcsc_of, part, total_load, whole}
+use Rattle.formulas.specs.Figures.{beq_of, bsc_of, fee_of, gesc_of, heua_of, heuc_of, ieq_of, lesd_of, nasc_of, vcrp_of, vcsc_of, weq_of, wfq_of, at_least_0, balanced, borne, from_contract, from_vesting, own_fee_of, own_vcsc_of, part, total_load, whole, heur_of}
 use Rattle.formulas.specs.Sums.{sum}
 use Rattle.formulas.proofs.Sums.{sum_at_most, sum_grows, sum_neg, sum_scale, sum_up_to, sum_within}
 use Rattle.formulas.proofs.Shares.{borne_some, share_is}
+use lib.Dec.{eqb-suc-zero}
 
 -- all that the figures are worked from lies in its range
 pub record InRanges (i : Basis) : Type 0 where
@@ -276,6 +277,16 @@ module _ (i : Basis) (k : InRanges i) where
     where
       added : (x y z : ℤ) → Around 122880000000000000 x → Around 960000000000000 y → Around 100000000000000000 z → Around 223840000000000000 (x -ℤ y +ℤ z)
       added x y z f g h = omega (arith, ints)
+
+  pub heur_around : Around 223840000000000000 (heur_of i)
+  unfolding heur_of
+  heur_around = by (total_load i)
+    where
+      by : (w : ℕ) → Around 223840000000000000 (cond (eqb w 0) (pos 0) (floor (heua_of i) w))
+      by zero = omega (arith, ints)
+      by (suc w) =
+          let h = heua_around in
+          subst (λ t. Around 223840000000000000 (cond t (pos 0) (floor (heua_of i) (suc w)))) (sym (eqb-suc-zero w)) (floor_around 223840000000000000 (suc w) (heua_of i) (omega arith) (omega (arith, ints)) (omega (arith, ints)))
 
   -- the loads of the first n accounts
   pub loads_up_to : (n : ℕ) → Within (pos 0) (pos (n * 10000000)) (sum n (weq_of i))

@@ -3,6 +3,12 @@ use Rattle.std.proofs.Common.{◌≡◌, zero, suc, ◌*◌, ℤ, pos, negsuc, �
 use borrow.Author.Differences.{up, down, sum_is_lem, same_in, product_is}
 use lib.IntN.{neg_ℤ-neg_ℤ}
 
+pub add_times : (a b c : ℤ) → (a +ℤ b) *ℤ c ≡ a *ℤ c +ℤ b *ℤ c
+add_times a b c =
+    let above = ap (λ x. x * up c) (sum_is_lem a b) in
+    let below = ap (λ x. x * down c) (sum_is_lem a b) in
+    omega (arith, same_in, sum_is_lem, product_is)
+
 pub times_add : (c a b : ℤ) → c *ℤ (a +ℤ b) ≡ c *ℤ a +ℤ c *ℤ b
 times_add c a b =
     let above = ap (λ x. up c * x) (sum_is_lem a b) in

@@ -1,7 +1,7 @@
 -- Laws of sums and tests over the numbers from 1.
-use Rattle.std.proofs.Common.{◌≡◌, ℕ, zero, suc, ◌*◌, ◌≤◌, Bool, true, false, cond, ◌||◌, eqb, ℤ, pos, ◌+ℤ◌, ◌-ℤ◌, ◌*ℤ◌, neg_ℤ, ◌≤ℤ◌, sym, refl, ap, ◌∙◌, subst, ⊎_elim, suc-mul, eq-or-lt_of_le, zero-mul, arith, ne_eqb, eqb-true}
+use Rattle.std.proofs.Common.{◌≡◌, ℕ, zero, suc, ◌*◌, ◌≤◌, Bool, true, false, cond, ◌||◌, eqb, ℤ, pos, ◌+ℤ◌, ◌-ℤ◌, ◌*ℤ◌, neg_ℤ, ◌≤ℤ◌, sym, refl, ap, ◌∙◌, subst, ⊎_elim, suc-mul, eq-or-lt_of_le, zero-mul, arith, ne_eqb, eqb-true, ◌⊎◌, inl, inr}
 use lib.Signed.{≤ℤ_refl}
-use borrow.Author.Tests.{eqb-false}
+use borrow.Author.Tests.{eqb-false, both_ways, clash}
 use Rattle.std.proofs.lemmas.Int.{ints}
 use Rattle.units.specs.Ranges.{Around, Within}
 use Rattle.formulas.specs.Sums.{sum, some_of}
@@ -119,3 +119,34 @@ some_none t = refl
 pub some_more : (n : ℕ) (t : ℕ → Bool) → some_of (suc n) t ≡ (some_of n t || t (suc n))
 unfolding some_of
 some_more n t = refl
+
+either : (x y : Bool) → (x || y) ≡ true → (x ≡ true) ⊎ (y ≡ true)
+either true y e = inl refl
+either false y e = inr e
+
+neither : (x y : Bool) → (x || y) ≡ false → (x ≡ false) × (y ≡ false)
+neither true y e = absurd (clash (sym e))
+neither false y e = (refl, e)
+
+-- a test that holds of some number holds of one
+pub some_one : (n : ℕ) (t : ℕ → Bool) → some_of n t ≡ true → (k : ℕ) × (1 ≤ k) × (k ≤ n) × (t k ≡ true)
+unfolding some_of
+some_one zero t e = absurd (clash e)
+some_one (suc n) t e =
+    ⊎_elim (λ h. let found = some_one n t h in (found.0, found.1, omega (arith, found.2), found.3)) (λ h. (suc n, omega arith, omega arith, h)) (either (some_of n t) (t (suc n)) e)
+
+-- a test that holds of no number fails at each
+pub some_no : (n : ℕ) (t : ℕ → Bool) → some_of n t ≡ false → (k : ℕ) → 1 ≤ k → k ≤ n → t k ≡ false
+unfolding some_of
+some_no zero t e k low high = absurd (omega arith)
+some_no (suc n) t e k low high =
+    let both = neither (some_of n t) (t (suc n)) e in
+    ⊎_elim (λ same. ap t same ∙ both.1) (λ less. some_no n t both.0 k low (omega arith)) (eq-or-lt_of_le high)
+
+-- one number for which the test holds
+pub some_from : (n : ℕ) (t : ℕ → Bool) (k : ℕ) → 1 ≤ k → k ≤ n → t k ≡ true → some_of n t ≡ true
+some_from n t k low high holds = by (some_of n t) refl
+  where
+    by : (b : Bool) → some_of n t ≡ b → some_of n t ≡ true
+    by true e = e
+    by false e = absurd (both_ways (t k) (some_no n t e k low high) holds)

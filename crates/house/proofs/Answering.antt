@@ -1,5 +1,5 @@
 -- The number of an answer, step by step.
-use Rattle.std.proofs.Common.{◌≡◌, ℕ, ◌<◌, Bool, true, false, cond, not, List, [], ◌∷◌, ◌++◌, IsErrAnd, Some, None, Ok, Err, Option, Result, refl, ap, arith}
+use Rattle.std.proofs.Common.{◌≡◌, ℕ, ◌<◌, Bool, true, false, cond, not, List, [], ◌∷◌, ◌++◌, IsErrAnd, Some, None, Ok, Err, Option, Result, refl, ap, arith, ◌&&◌}
 use Rattle.units.specs.Refusals.{answer_number, refusal_number}
 use Rattle.units.specs.Checks.{Check, first_met}
 use Rattle.units.specs.declared.refusal.Refusal.{Refusal}
@@ -76,3 +76,19 @@ open_stops e (Some i) f more h = stops e (f i) more h
 pub open_passes : (o : Option IntervalSaid) (f : IntervalSaid → List Check) (more : List Check) → ((i : IntervalSaid) → Numbered (f i)) → 0 ≡ first_met (if_open o f) → first_met more ≡ first_met (if_open o (λ i. f i ++ more))
 open_passes None f more n h = absurd (omega arith)
 open_passes (Some i) f more n h = passes (f i) more (n i) h
+
+-- of two tests the second fails, of three the second or the third; all of them pass
+pub second_fails : (a b : Bool) → true ≡ a → false ≡ b → false ≡ (a && b)
+second_fails a b p q = cc
+
+pub middle_fails : (a b c : Bool) → true ≡ a → false ≡ b → false ≡ (a && b && c)
+middle_fails a b c p q = cc
+
+pub third_fails : (a b c : Bool) → true ≡ a → true ≡ b → false ≡ c → false ≡ (a && b && c)
+third_fails a b c p q r = cc
+
+pub two_pass : (a b : Bool) → true ≡ a → true ≡ b → true ≡ (a && b)
+two_pass a b p q = cc
+
+pub three_pass : (a b c : Bool) → true ≡ a → true ≡ b → true ≡ c → true ≡ (a && b && c)
+three_pass a b c p q r = cc

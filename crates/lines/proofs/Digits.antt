@@ -2,6 +2,7 @@
 use Rattle.std.proofs.Common.{◌≡◌, ℕ, ◌+◌, ◌-◌, ◌*◌, ◌<◌, ◌≤◌, min, true, false, cond, List, [], ◌∷◌, length, get_or, take, drop, pos, neg_ℤ, Some, None, Option, sym, refl, ap, ◌∙◌, not-suc-le-zero, add-one, arith, drop_of_length-le, take_all, drop-cons}
 use Rattle.lines.specs.Numerals.{digits_after, far, clamped, is_digit, whole_number, written_number}
 use Rattle.std.specs.Option.{option_map}
+use Rattle.std.proofs.lemmas.Bool.Decides.{nat_tests}
 
 -- two numbers that are clamped alike go on alike
 pub held_alike : (cs : List ℕ) (a b : ℕ) → min far a ≡ min far b → clamped (digits_after a cs) ≡ clamped (digits_after b cs)
@@ -26,6 +27,16 @@ all_read [] i n h some le e = absurd (not-suc-le-zero some)
 all_read (c ∷ cs) i n h some le e =
     let same : n ≡ min far n = omega arith in
     ap Some same ∙ (rw (drop_of_length-le (c ∷ cs) h) at e)
+
+-- which bytes are digits
+pub below_digits : (c : ℕ) → c < 48 → is_digit c ≡ false
+below_digits c h = grind (arith, nat_tests)
+
+pub above_digits : (c : ℕ) → 57 < c → is_digit c ≡ false
+above_digits c h = grind (arith, nat_tests)
+
+pub digit : (c : ℕ) → 48 ≤ c → c ≤ 57 → is_digit c ≡ true
+digit c h k = grind (arith, nat_tests)
 
 -- no number that is read lies beyond the farthest
 held_small : (o : Option ℕ) (n : ℕ) → Some n ≡ clamped o → n ≤ far

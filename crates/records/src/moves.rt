@@ -3,7 +3,7 @@
 ghost use Rattle.std.specs.Prelude.{pos};
 ghost use Rattle.units.specs.Ranges.{Around, Within};
 
-use crate::entries::{MovedFacility, MovedLoad};
+pub use crate::entries::{MovedFacility, MovedLoad};
 use units::{ACCOUNTS, FACILITIES, Price};
 
 #[derive(Clone, Copy)]

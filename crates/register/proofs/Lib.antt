@@ -1,4 +1,5 @@
 pub mod First
+pub mod Keys
 pub mod Mapped
 pub mod Pass
 pub mod Rows

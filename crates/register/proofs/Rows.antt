@@ -210,3 +210,17 @@ module _ {R : Type 0} (carried : R → Numbers) where
       go : (lookup carried xs k ≡ Some r → carried r ≡ k) → (b : Bool) → same_key (carried y) k ≡ b → cond b (Some y) (lookup carried xs k) ≡ Some r → carried r ≡ k
       go less true s t = let z : y ≡ r = cc in ap carried (sym z) ∙ same_key_is (carried y) k s
       go less false s t = less t
+
+-- where there is no index, nothing is put
+pub put_nowhere : {X : Type 0} (o : Option ℕ) (xs : List X) (y : X) → is_some o ≡ false → put_at o xs y ≡ xs
+put_nowhere None xs y e = refl
+put_nowhere (Some i) xs y e = cc
+
+-- the first vacant index stays, or is the one at hand
+pub first_free : (free : Option ℕ) (i : ℕ) → is_some free ≡ false → option_or free (Some i) ≡ Some i
+first_free None i e = refl
+first_free (Some j) i e = cc
+
+pub kept_free : (free : Option ℕ) (i : ℕ) → is_some free ≡ true → option_or free (Some i) ≡ free
+kept_free None i e = cc
+kept_free (Some j) i e = refl
